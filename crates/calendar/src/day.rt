@@ -3,7 +3,6 @@ ghost use mathlib.Core.Path.{_≡_};
 ghost use Prim.Native.Nat.{_≤_};
 ghost use Rattle.std.specs.Results.{Cases};
 ghost use Rattle.common.specs.declared.refusal.Refusal.{Refusal};
-
 use common::Refusal;
 
 // A day from 2 January 1970 (1) to 31 December 2199 (84005). No value of this type is outside that range.

@@ -1,0 +1,4 @@
+pub mod Rules
+pub mod Dates
+pub mod Texts
+pub mod Values
