@@ -1,0 +1,4 @@
+pub mod Lex
+pub mod Seen
+pub mod Line
+pub mod Theorems
