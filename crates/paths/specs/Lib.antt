@@ -1,0 +1,13 @@
+pub mod Kind
+pub mod Ledger
+pub mod Equations
+pub mod Calls
+pub mod Edits
+pub mod Reports
+pub mod Walk
+pub mod Search
+pub mod Order
+pub mod Ranks
+pub mod Explain
+pub mod Theorems
+pub mod Examples
