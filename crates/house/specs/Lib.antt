@@ -1,0 +1,5 @@
+pub mod Ranges
+pub mod Expiries
+pub mod BitSets
+pub mod ClaimSets
+pub mod Locks
