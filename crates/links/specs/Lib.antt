@@ -1,0 +1,4 @@
+pub mod Threads
+pub mod Table
+pub mod Links
+pub mod Theory

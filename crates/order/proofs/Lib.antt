@@ -1,0 +1,11 @@
+pub mod Bytes
+pub mod Entries
+pub mod Ways
+pub mod Deals
+pub mod Shares
+pub mod Admits
+pub mod Specimen
+pub mod Props
+pub mod Passages
+pub mod Stays
+pub mod Settles
