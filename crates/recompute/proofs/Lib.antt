@@ -1,0 +1,5 @@
+pub mod Rows
+pub mod Sums
+pub mod Steps
+pub mod Grounds
+pub mod Ends
