@@ -1,0 +1,5 @@
+pub mod Calls
+pub mod Ranks
+pub mod State
+pub mod Steps
+pub mod Law
