@@ -1,0 +1,4 @@
+pub mod Held
+pub mod View
+pub mod Making
+pub mod Calls

@@ -1,0 +1,4 @@
+pub mod Room
+pub mod Fill
+pub mod Columns
+pub mod Making
