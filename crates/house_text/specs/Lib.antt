@@ -1,0 +1,3 @@
+pub mod LockText
+pub mod ClaimsText
+pub mod ExpiryText

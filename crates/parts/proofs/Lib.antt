@@ -1,0 +1,4 @@
+pub mod Buffers
+pub mod PairLaws
+pub mod Ones
+pub mod Rooms

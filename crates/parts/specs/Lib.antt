@@ -1,0 +1,4 @@
+pub mod Spelling
+pub mod Pairing
+pub mod Parts
+pub mod Buffers
