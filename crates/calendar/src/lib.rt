@@ -1,4 +1,6 @@
 // Days and dates of the Gregorian calendar.
+#![tactic(auto)]
+
 pub mod convert;
 pub mod date;
 pub mod day;

@@ -1,4 +1,6 @@
 // Reads lines, each a date or a day number, and prints for each its date and day number, or the number of its refusal.
+#![tactic(auto)]
+
 mod lookup;
 
 use std::io;

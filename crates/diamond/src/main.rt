@@ -1,4 +1,6 @@
 // A store of four places with a diamond of links: 0 to 1 and to 2, and both to 3. Prints what each edit answers and the labels after it.
+#![tactic(auto)]
+
 ghost use Rattle.std.specs.Prelude.{◌≡◌, replicate, IfOk};
 
 use calendar::Day;

@@ -1,4 +1,6 @@
 // Taking a place out of the tables of a store.
+#![tactic(auto)]
+
 ghost use Rattle.std.specs.Prelude.{◌≡◌, ◌<◌, ◌≤◌, length, vec_len};
 ghost use Rattle.links.specs.Table.{Kept, links as row_links};
 ghost use Rattle.links.specs.Links.{Shut};

@@ -1,4 +1,6 @@
 // The three edits, over the tables of a store.
+#![tactic(auto)]
+
 ghost use Rattle.std.specs.Prelude.{◌≡◌, ◌<◌, ◌≤◌, true, false, length, drop, vec_len, MatchResult};
 ghost use Rattle.links.specs.Table.{Kept, Leads, links as row_links, link as link_of};
 ghost use Rattle.common.specs.declared.refusal.Refusal.TheVariants.{Circle};

@@ -1,4 +1,6 @@
 // The three edits of the tables: each changes an own label or a link, and recomputes.
+#![tactic(auto)]
+
 ghost use Rattle.std.specs.Prelude.{◌≡◌, ℕ, ◌+◌, ◌<◌, ◌≤◌, length, drop, MatchResult};
 ghost use Rattle.common.specs.declared.refusal.Refusal.TheVariants.{Circle};
 ghost use Rattle.paths.specs.Walk.{Put};

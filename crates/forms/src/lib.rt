@@ -1,4 +1,6 @@
 // The forms of a text, one on a line.
+#![tactic(auto)]
+
 pub mod form;
 pub mod line;
 pub mod rest;

@@ -1,4 +1,6 @@
 // Expiries, sets of claims and locks, each a label kind, and the house label.
+#![tactic(auto)]
+
 pub mod claims;
 pub mod expiry;
 pub mod lock;

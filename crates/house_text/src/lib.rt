@@ -1,4 +1,6 @@
 // The parts that expiries, claims, locks and their passages are written as.
+#![tactic(auto)]
+
 mod args;
 pub mod claims;
 pub mod expiry;

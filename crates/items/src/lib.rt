@@ -1,4 +1,6 @@
 // The items of a text, and the line around a byte of it.
+#![tactic(auto)]
+
 pub mod item;
 pub mod law;
 pub mod line;

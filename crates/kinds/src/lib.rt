@@ -1,4 +1,6 @@
 // What a label kind is, the pair of any two kinds, and the theorems that hold of every kind.
+#![tactic(auto)]
+
 pub mod kind;
 pub mod pair;
 pub mod theorems;

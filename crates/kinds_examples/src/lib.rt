@@ -1,4 +1,6 @@
 // Worked examples of the label kinds. Each is proved to be safe, and then run.
+#![tactic(auto)]
+
 #[cfg(test)]
 mod tests {
     use calendar::Day;

@@ -1,4 +1,6 @@
 // The law over every run of calls on a store, for each label kind.
+#![tactic(auto)]
+
 ghost use Rattle.law.specs.Law.{EveryRunKeepsTheLaw, OrderIsOne, EditHasOneAnswer};
 
 use kinds::LabelKind;

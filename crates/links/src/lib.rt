@@ -1,6 +1,8 @@
 // The links that exist, at most one for each source and target, in tables that the caller lends.
 // The links from a place hang on one thread and the links to it on another, each in rising order of the other end;
 // the unused rows lie on one another. A caller sees the links alone.
+#![tactic(auto)]
+
 ghost use Rattle.std.specs.Prelude.{◌≡◌, ℕ, ◌+◌, ◌-◌, ◌<◌, ◌≤◌, true, false, ◌↔◌, [], length, filter, slice_index_or, slice_set};
 ghost use Rattle.links.specs.Threads.{Sorted, Gap};
 ghost use Rattle.links.specs.Table.{view, shape, key, next as next_of, head_of, with_next, with_head, Spliced, Kept, Leads, link, Occupied, Taken, Lowest, Next, Found, slot_of, links, Stacked, Headless, Told};

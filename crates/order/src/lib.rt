@@ -1,4 +1,6 @@
 // The order of ranks: for each place its rank and for each rank its place, in tables that the caller lends.
+#![tactic(auto)]
+
 ghost use Rattle.std.specs.Prelude.{◌≡◌, ℕ, ◌+◌, ◌^◌, ◌<◌, ◌≤◌, true, [], length, MatchResult};
 ghost use Rattle.common.specs.declared.refusal.Refusal.TheVariants.{Circle};
 ghost use Rattle.paths.specs.Order.{Ranked, moved};

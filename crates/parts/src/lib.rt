@@ -1,4 +1,6 @@
 // Texts of bracketed parts: how one part is read and written.
+#![tactic(auto)]
+
 pub mod buffer;
 pub mod part;
 

@@ -1,5 +1,7 @@
 // The theory under the store: labels that are joins over all paths, edits and their reports, ranks, explanations.
 // Each function below is a group of theorems: its contract names them, and its body does nothing.
+#![tactic(auto)]
+
 ghost use Rattle.std.specs.Prelude.{ℕ, Bool, nat_eq, nat_lt};
 ghost use Rattle.paths.specs.Examples.{latest, FootOfDiamond, SixPlaces};
 ghost use Rattle.paths.specs.Kind.{Kind, Laws, FreeLaws};

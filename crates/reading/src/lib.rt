@@ -1,4 +1,6 @@
 // Reading a text item by item: each reader answers what it read and the place after it, or the first fault.
+#![tactic(auto)]
+
 pub mod fault;
 pub mod item;
 pub mod value;

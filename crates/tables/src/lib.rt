@@ -1,4 +1,6 @@
 // The tables that a caller lends to a store: their entries, the checks of their sizes, and how they are cleared for a new store.
+#![tactic(auto)]
+
 pub mod entry;
 pub mod making;
 pub mod tables;

@@ -1,4 +1,6 @@
 // Label kinds that can be written and read back.
+#![tactic(auto)]
+
 pub mod claims;
 pub mod expiry;
 pub mod house;
