@@ -3,7 +3,6 @@ use Rattle.std.proofs.Common.{◌≡◌, ℕ, ◌<◌, ◌≤◌, Bool, true, fa
 use Rattle.std.specs.List.{ContainsAt as Has}
 use Rattle.std.proofs.lemmas.Bool.{both_ways, cases_Bool, eqb-true, eq-eqb}
 use Rattle.std.proofs.ByRecursion.{all-has, has_get_or}
-use Rattle.paths.specs.Kind.{Laws}
 use Rattle.paths.specs.Ledger.{Link, Ledger, AreJoins}
 use Rattle.paths.specs.Equations.{Topological}
 use Rattle.paths.specs.Calls.{unlink, joins, next}
@@ -11,6 +10,7 @@ use Rattle.paths.specs.Edits.{Edit}
 use Rattle.paths.specs.Reports.{Changed, Reported, IsReport, Number}
 use Rattle.paths.specs.Search.{Met, Marks}
 use Rattle.paths.specs.Order.{Ranked, upto, moved}
+use Rattle.paths.specs.LatestLaws.{latest_laws}
 use Rattle.paths.specs.Examples.{latest, arrow, bare, diamond, FootOfDiamond, SixPlaces}
 use Rattle.paths.proofs.Lists.{has_none, has_first, has_later, has_cases}
 use Rattle.paths.proofs.Calls.{kept_each, own_edits}
@@ -18,17 +18,6 @@ use Rattle.paths.proofs.Joins.{join_unique}
 use Rattle.paths.proofs.Told.{counted}
 use Rattle.paths.proofs.Permutes.{first_rising}
 use Rattle.paths.proofs.Exists.{label_of, join_exists}
-
-latest_laws : Laws latest
-latest_laws =
-    record {
-      same = λ x. omega arith;
-      swap = λ x y. omega arith;
-      group = λ x y z. omega arith;
-      unit = λ x. omega arith;
-      carry_empty = λ t. omega arith;
-      carry_join = λ t x y. omega arith;
-    }
 
 diamond_rises : Topological (λ p. p) diamond.links
 diamond_rises u v t m =

@@ -11,3 +11,4 @@ pub mod Ranks
 pub mod Explain
 pub mod Theorems
 pub mod Examples
+pub mod LatestLaws
