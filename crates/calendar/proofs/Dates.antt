@@ -1,7 +1,7 @@
 -- Every day has one date, and a date one day. Assumes nothing.
-use Rattle.std.proofs.Common.{◌≡◌, ℕ, zero, suc, ◌+◌, ◌-◌, ◌<◌, ◌≤◌, Bool, true, false, cond, ◌&&◌, leb, ◌↔◌, Some, None, Option, sym, refl, ap, ◌∙◌, subst, ⊎_elim, add-zero, add-suc, arith}
+use Rattle.std.proofs.Common.{◌≡◌, ℕ, zero, suc, ◌+◌, ◌-◌, ◌<◌, ◌≤◌, Bool, true, false, cond, leb, Some, None, sym, refl, ap, ◌∙◌, subst, ⊎_elim, add-zero, arith}
 use Rattle.std.proofs.lemmas.Bool.{cond-true, cond-false, and_from, and_parts, le-leb, leb-true, leb-false, cases_Bool, cases_eq, cases_order}
-use Rattle.calendar.specs.Calendar.{leap, year_length, before_year, before_month, month_length, day_number, Exists, FallsOn, InRange, exists, day_if, last_at_most, years_to, year_of, month_of, day_of}
+use Rattle.calendar.specs.Calendar.{leap, year_length, before_year, before_month, month_length, day_number, Exists, FallsOn, InRange, exists, last_at_most, years_to, year_of, month_of, day_of}
 use Rattle.calendar.specs.Theorems.{DaysAreDates, TestTells}
 use Rattle.calendar.proofs.Rules.{years_right, year_more, month_more, month_top, december, year_end, in_range, dated}
 

@@ -1,8 +1,8 @@
 -- The text of a day is read as that day, and no other text is. Assumes nothing.
-use Rattle.std.proofs.Common.{◌≡◌, ℕ, ◌+◌, ◌-◌, ◌*◌, ◌/◌, ◌%◌, ◌<◌, ◌≤◌, Bool, true, false, cond, ◌&&◌, eqb, leb, ◌↔◌, List, [], ◌∷◌, ◌++◌, length, get_or, Some, None, Option, sym, refl, ap, ◌∙◌, subst, arith}
-use Rattle.std.proofs.lemmas.Bool.{cond-true, and_from, and_parts, le-leb, leb-true, eqb-true, eq-eqb}
-use Rattle.calendar.specs.Calendar.{leap, month_length, Exists, FallsOn, InRange, day_if, year_of, month_of, day_of}
-use Rattle.calendar.specs.Text.{digit, two, date_text, day_text, digits_at, two_at, is_date, day_in}
+use Rattle.std.proofs.Common.{◌≡◌, ℕ, ◌+◌, ◌-◌, ◌*◌, ◌/◌, ◌%◌, ◌<◌, ◌≤◌, Bool, true, false, cond, ◌&&◌, eqb, leb, List, [], ◌∷◌, length, get_or, Some, None, Option, sym, refl, ap, ◌∙◌, arith}
+use Rattle.std.proofs.lemmas.Bool.{cond-true, and_from, and_parts, le-leb, leb-true, eqb-true}
+use Rattle.calendar.specs.Calendar.{leap, FallsOn, InRange, day_if, year_of, month_of, day_of}
+use Rattle.calendar.specs.Text.{digit, date_text, day_text, digits_at, two_at, is_date, day_in}
 use Rattle.calendar.specs.Theorems.{TextTells}
 use Rattle.calendar.proofs.Rules.{month_short}
 use Rattle.calendar.proofs.Dates.{computed, date_is, ranged, test_tells}

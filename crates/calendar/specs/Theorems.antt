@@ -1,5 +1,5 @@
 -- What holds of days, dates and their texts. Assumes nothing.
-use Rattle.std.specs.Prelude.{◌≡◌, ℕ, ◌↔◌, List, Some, None, Option}
+use Rattle.std.specs.Prelude.{◌≡◌, ℕ, ◌↔◌, List, Some, None}
 use Rattle.calendar.specs.Calendar.{InRange, FallsOn, day_if, year_of, month_of, day_of}
 use Rattle.calendar.specs.Text.{day_text, day_in}
 

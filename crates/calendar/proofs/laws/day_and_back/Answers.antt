@@ -4,4 +4,4 @@ use Rattle.calendar.proofs.Values.{ok_is}
 use Rattle.calendar.proofs.laws.day_and_back.Goals as goal
 
 pub returns : goal.returns
-returns c = ok_is c.to-day.result c.args.day (c.to-day.ensures.computed ∙ (test_tells _ _ _ c.args.day.number).1 c.date.ensures.falls)
+returns c = ok_is c.to_day.result c.args.day (c.to_day.ensures.computed ∙ (test_tells _ _ _ c.args.day.number).1 c.date.ensures.falls)

@@ -1,12 +1,12 @@
-use Rattle.std.proofs.Common.{◌≡◌, ◌+◌, ◌-◌, eqb, sym, ap, ◌∙◌, arith}
-use Rattle.calendar.specs.Calendar.{leap, year_length, before_year}
+use Rattle.std.proofs.Common.{◌≡◌, ◌+◌, ◌-◌, eqb, ap, ◌∙◌, arith}
+use Rattle.calendar.specs.Calendar.{leap, year_length}
 use Rattle.calendar.proofs.Rules.{year_more, length_tells}
 use Rattle.calendar.proofs.tables.is_long.Goals as goal
 
-pub overflow-sub-result : goal.overflow-sub-result
-overflow-sub-result c = omega (arith, year_more c.args.k)
+pub overflow_sub-result : goal.overflow_sub-result
+overflow_sub-result c = omega (arith, year_more c.args.k)
 
 pub returns : goal.returns
 returns c =
-    let d : c.year-start.result - c.year-start-2.result ≡ year_length (1970 + c.args.k) = omega (arith, year_more c.args.k) in
+    let d : c.year_start.result - c.year_start-2.result ≡ year_length (1970 + c.args.k) = omega (arith, year_more c.args.k) in
     ap (λ n. eqb n 366) d ∙ length_tells (leap (1970 + c.args.k))

@@ -2,16 +2,16 @@ use Rattle.std.proofs.Common.{◌+◌, ◌-◌, ◌≤◌, arith}
 use Rattle.calendar.specs.Calendar.{before_year, before_month, month_length}
 use Rattle.calendar.proofs.Rules.{in_range}
 use Rattle.calendar.proofs.date.Date.to_day.Goals as goal
-use Rattle.calendar.proofs.date.Date.to_day.Goals.{After-month-start}
+use Rattle.calendar.proofs.date.Date.to_day.Goals.{After-month_start}
 
-top : (c : goal.After-month-start) → before_year (c.args.self.year - 1970) + (before_month c.is-long-long.result c.args.self.month + month_length c.is-long-long.result c.args.self.month) ≤ 84006
-top c = in_range (c.args.self.year - 1970) c.args.self.month c.is-long-long.result (omega arith) c.is-long-long.ensures (omega arith) (omega arith)
+top : (c : goal.After-month_start) → before_year (c.args.self.year - 1970) + (before_month c.is_long-long.result c.args.self.month + month_length c.is_long-long.result c.args.self.month) ≤ 84006
+top c = in_range (c.args.self.year - 1970) c.args.self.month c.is_long-long.result (omega arith) c.is_long-long.ensures (omega arith) (omega arith)
 
-pub overflow-add-number : goal.overflow-add-number
-overflow-add-number c = record { fits = omega (arith, top (goal.at.overflow-add-number c).After-month-start) }
+pub overflow_add-number : goal.overflow_add-number
+overflow_add-number c = record { fits = omega (arith, top (goal.at.overflow_add-number c).After-month_start) }
 
-pub overflow-add-number-2 : goal.overflow-add-number-2
-overflow-add-number-2 c = record { fits = omega (arith, top (goal.at.overflow-add-number-2 c).After-month-start) }
+pub overflow_add-number-2 : goal.overflow_add-number-2
+overflow_add-number-2 c = record { fits = omega (arith, top (goal.at.overflow_add-number-2 c).After-month_start) }
 
-pub invariant-of-result : goal.invariant-of-result
-invariant-of-result c = let t = top (goal.at.invariant-of-result c).After-month-start in (omega arith, (omega arith, tt))
+pub invariant_of-result : goal.invariant_of-result
+invariant_of-result c = let t = top (goal.at.invariant_of-result c).After-month_start in record { low = omega arith; high = omega arith }
