@@ -1,4 +1,4 @@
-use Rattle.std.proofs.Common.{◌≡◌, ℕ, ◌<◌, Bool, false, List, length, set, Vec, refl, ap, ◌∙◌, subst, arith, length-set}
+use Rattle.std.proofs.Common.{◌≡◌, ℕ, ◌<◌, Bool, false, List, length, set, Vec, refl, ap, ◌∙◌, arith, length-set}
 use Rattle.paths.specs.Calls.{put}
 use Rattle.links.specs.Table.{links}
 use Rattle.order.proofs.Stays.{keeps_order}
@@ -19,9 +19,9 @@ returns g c =
     let old = c.args.t.now in
     let room = c.requires.room in
     let empty = means.kind.empty in
-    let row = c.to-row-row.result in
+    let row = c.to_row-row.result in
     let rows = c.shut.new.rows in
-    let blank : means.value (means.stands row) ≡ empty = ap means.value c.to-row-row.ensures ∙ c.empty.ensures in
+    let blank : means.value (means.stands row) ≡ empty = ap means.value c.to_row-row.ensures ∙ c.empty.ensures in
     let flags : p < length old.present.items = omega (arith, c.requires.place, room.0.0.0, old.present.ok.0) in
     let owns : p < length old.own.items = omega (arith, c.requires.place, room.0.1.0, old.own.ok.0) in
     let says : p < length old.labels.items = omega (arith, c.requires.place, room.0.1.1, old.labels.ok.0) in

@@ -10,11 +10,11 @@ returns g c =
     let rows = c.args.rows.now in
     let heads = c.args.heads.now in
     let p = c.args.p.0 in
-    let last = c.remove-entering.new in
-    let e = c.remove-entering.ensures in
+    let last = c.remove_entering.new in
+    let e = c.remove_entering.ensures in
     let lr : length last.rows ≡ rows.len = search rules in
     let lh : length last.heads ≡ heads.len = search rules in
-    let was : c.as-mut-slice.result.now ≡ rows.items = c.as-mut-slice.ensures.value in
+    let was : c.as_mut_slice.result.now ≡ rows.items = c.as_mut_slice.ensures.value in
     record {
       kept = over rows last.rows (λ xs. Kept xs (with_items heads last.heads).items last.tally) lr (over heads last.heads (λ hs. Kept last.rows hs last.tally) lh e.sound);
       shut = over rows last.rows (λ xs. Shut (links rows.items) (links xs) p) lr (subst (λ xs. Shut (links xs) (links last.rows) p) was e.shut);
