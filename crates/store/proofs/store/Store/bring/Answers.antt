@@ -18,8 +18,8 @@ returns g c =
     record {
       told = record {
         passed = (
-          λ e. both_ways (is_out (permit_in self.permit)) (sym c.permit-is-out.ensures ∙ c.if-permit-is-out.false) e,
-          (λ l. omega (arith, low), (λ e. both_ways (present_in self.n flags c.args.p.0) (sym c.is-present.ensures ∙ c.if-is-present.false) e, tt)),
+          λ e. both_ways (is_out (permit_in self.permit)) (sym c.permit_is_out.ensures ∙ c.if-permit_is_out.false) e,
+          (λ l. omega (arith, low), (λ e. both_ways (present_in self.n flags c.args.p.0) (sym c.is_present.ensures ∙ c.if-is_present.false) e, tt)),
         );
         turns = record {
           does = record {

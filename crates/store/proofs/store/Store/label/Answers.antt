@@ -14,9 +14,9 @@ returns g c =
     let p = c.args.p.0 in
     let low : c.args.p.0 < self.n = omega (arith, c.if-index-self.false, c.index.ensures) in
     let in' : c.args.p.0 < length self.tables.now.labels.items = omega (arith, low, self.room.0.1.1, self.tables.now.labels.ok.0) in
-    let same : means.value c.from-row.result ≡ values_in means self.n rows p =
-    ap means.value c.from-row.ensures ∙ ap (λ r. means.value (means.stands r)) c.read.ensures ∙ sym (column_at (λ r. means.value (means.stands r)) means.kind.empty self.n rows p c.read.result low in') in
+    let same : means.value c.from_row.result ≡ values_in means self.n rows p =
+    ap means.value c.from_row.ensures ∙ ap (λ r. means.value (means.stands r)) c.read.ensures ∙ sym (column_at (λ r. means.value (means.stands r)) means.kind.empty self.n rows p c.read.result low in') in
     record {
-      told = ((λ l. omega (arith, low), (λ e. both_ways (present_in self.n self.tables.now.present.items p) e (sym c.is-present.ensures ∙ c.if-not-is-present.false), tt)), same);
+      told = ((λ l. omega (arith, low), (λ e. both_ways (present_in self.n self.tables.now.present.items p) e (sym c.is_present.ensures ∙ c.if-not-is_present.false), tt)), same);
       join = λ joins. subst (IsJoin means.kind (view means self).ledger p) (sym same) (joins p);
     }

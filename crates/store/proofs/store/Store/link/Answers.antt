@@ -18,57 +18,55 @@ use Rattle.order.proofs.Passages.{same_paths}
 use Rattle.recompute.specs.Tables.{numbers, value_in, arrows_in}
 use Rattle.recompute.proofs.Grounds.{rising}
 use Rattle.tables.specs.Columns.{present_in, values_in}
-use Rattle.tables.specs.View.{links_of}
-use Rattle.store.specs.View.{permit_in, view}
-use Rattle.tables.proofs.Views.{links_are, links_number, is_linked, linked_by}
-use Rattle.store.proofs.Edits.{settled, size, edited_through, same_by, alike_eq, elim_some, elim_low, elim_high, elim_room}
+use Rattle.store.specs.View.{links_of, permit_in, view}
+use Rattle.store.proofs.Edits.{links_are, links_number, settled, size, edited_through, same_by, alike_eq, is_linked, linked_by, elim_some, elim_low, elim_high, elim_room}
 use Rattle.store.proofs.store.Store.link.Goals as goal
 
-pub returns-then-linked-in : goal.returns-then-linked-in
-returns-then-linked-in g c =
+pub returns-then-linked_in : goal.returns-then-linked_in
+returns-then-linked_in g c =
     let m = g.K.LabelKind.means in
     let self = c.args.self.now in
     let n = self.n in
     let old = self.tables.now in
     let u = c.args.u.0 in
     let v = c.args.v.0 in
-    let p = c.in-ok-ends.ensures in
+    let p = c.in_ok-ends.ensures in
     let some : 0 < self.n = elim_some self.n c.args.u.0 p.1.1.0 in
     record {
-      told = record { refused = inr (p.0, inr (p.1.0, inr (p.1.1.0, inr (p.1.1.1.0, inl (linked_by m n old.links.items some u v (c.linked-in.ensures.yes c.if-linked-in.true), refl))))); same = refl };
+      told = record { refused = inr (p.0, inr (p.1.0, inr (p.1.1.0, inr (p.1.1.1.0, inl (linked_by m n old.links.items some u v (c.linked_in.ensures.yes c.if-linked_in.true), refl))))); same = refl };
       rest = refl;
       kept = record { refused = refl; marks = refl };
     }
 
-pub returns-then-count-in-m : goal.returns-then-count-in-m
-returns-then-count-in-m g c =
+pub returns-then-count_in-m : goal.returns-then-count_in-m
+returns-then-count_in-m g c =
     let m = g.K.LabelKind.means in
     let self = c.args.self.now in
     let n = self.n in
     let old = self.tables.now in
     let u = c.args.u.0 in
     let v = c.args.v.0 in
-    let p = c.in-ok-ends.ensures in
+    let p = c.in_ok-ends.ensures in
     let some : 0 < self.n = elim_some self.n c.args.u.0 p.1.1.0 in
-    let fresh : slots.Leads (links old.links.items) u v → ⊥ = c.linked-in.ensures.no c.if-linked-in.false in
+    let fresh : slots.Leads (links old.links.items) u v → ⊥ = c.linked_in.ensures.no c.if-linked_in.false in
     let unlinked : IsLinked (links_of m n old.links.items) u v → ⊥ = λ h. fresh (is_linked m n old.links.items some u v h) in
     record {
-      told = record { refused = inr (p.0, inr (p.1.0, inr (p.1.1.0, inr (p.1.1.1.0, inr (unlinked, inl (omega (arith, links_number m n old.links.items some, c.count-in.ensures, c.if-count-in-m.true), refl)))))); same = refl };
+      told = record { refused = inr (p.0, inr (p.1.0, inr (p.1.1.0, inr (p.1.1.1.0, inr (unlinked, inl (omega (arith, links_number m n old.links.items some, c.count_in.ensures, c.if-count_in-m.true), refl)))))); same = refl };
       rest = refl;
       kept = record { refused = refl; marks = refl };
     }
 
-pub link-in-answer-requires : goal.link-in-answer-requires
-link-in-answer-requires g c =
+pub link_in-answer-requires : goal.link_in-answer-requires
+link_in-answer-requires g c =
     let m = g.K.LabelKind.means in
     let self = c.args.self.now in
     let n = self.n in
     let old = self.tables.now in
     let u = c.args.u.0 in
     let v = c.args.v.0 in
-    let p = c.in-ok-ends.ensures in
+    let p = c.in_ok-ends.ensures in
     let some : 0 < self.n = elim_some self.n c.args.u.0 p.1.1.0 in
-    let fresh : slots.Leads (links old.links.items) u v → ⊥ = c.linked-in.ensures.no c.if-linked-in.false in
+    let fresh : slots.Leads (links old.links.items) u v → ⊥ = c.linked_in.ensures.no c.if-linked_in.false in
     let unlinked : IsLinked (links_of m n old.links.items) u v → ⊥ = λ h. fresh (is_linked m n old.links.items some u v h) in
     record {
       room = self.room;
@@ -77,7 +75,7 @@ link-in-answer-requires g c =
       clean = self.clean;
       places = (elim_high n v u p.1.1.0, elim_low n v u p.1.1.0);
       list = elim_room n (length c.args.list.now) p.1.0;
-      few = omega (arith, c.count-in.ensures, c.if-count-in-m.false);
+      few = omega (arith, c.count_in.ensures, c.if-count_in-m.false);
       fresh = fresh;
     }
 
@@ -89,17 +87,17 @@ returns g c =
     let old = self.tables.now in
     let u = c.args.u.0 in
     let v = c.args.v.0 in
-    let p = c.in-ok-ends.ensures in
+    let p = c.in_ok-ends.ensures in
     let some : 0 < self.n = elim_some self.n c.args.u.0 p.1.1.0 in
-    let fresh : slots.Leads (links old.links.items) u v → ⊥ = c.linked-in.ensures.no c.if-linked-in.false in
+    let fresh : slots.Leads (links old.links.items) u v → ⊥ = c.linked_in.ensures.no c.if-linked_in.false in
     let unlinked : IsLinked (links_of m n old.links.items) u v → ⊥ = λ h. fresh (is_linked m n old.links.items some u v h) in
     let V = m.Value in
     let P = g.row.K-Passage.Denot in
     let k = m.kind in
-    let new = c.link-in-answer.new.t in
+    let new = c.link_in-answer.new.t in
     let t = c.args.passage in
-    let list = c.link-in-answer.new.list in
-    let steady = c.link-in-answer.ensures.steady in
+    let list = c.link_in-answer.new.list in
+    let steady = c.link_in-answer.ensures.steady in
     let high : u < n = elim_high n v u p.1.1.0 in
     let low : v < n = elim_low n v u p.1.1.0 in
     let sound = opened n old.ranks.items old.order.items (links old.links.items) (self.ordered some) in
@@ -111,13 +109,13 @@ returns g c =
     let grown : Ledger V P = next k before (ledger.link u v t) in
     let was : Alike (arrows_in m old.links.items) before.links = alike_eq (arrows_in m old.links.items) before.links (sym are) in
     let paths = same_paths g.row.K-PassageRow.Denot P in
-    let full : self.m ≤ length (links_of m n old.links.items) → ⊥ = λ h. omega (arith, links_number m n old.links.items some, c.count-in.ensures, c.if-count-in-m.false) in
+    let full : self.m ≤ length (links_of m n old.links.items) → ⊥ = λ h. omega (arith, links_number m n old.links.items some, c.count_in.ensures, c.if-count_in-m.false) in
     record {
-      told = MatchResult-weaker c.link-in-answer.result c.link-in-answer.ensures.told
+      told = MatchResult-weaker c.link_in-answer.result c.link_in-answer.ensures.told
           (λ counts e.
           let alike : Alike (arrows_in m new.links.items) grown.links =
-          subst (λ (s : P). Alike (arrows_in m new.links.items) (next k before (ledger.link u v s)).links) c.passage-to-row-row.ensures
-          ((follows g.row.K-PassageRow.Denot V P).gains k before m.leads (links old.links.items) (links new.links.items) (link c.args.u c.args.v c.passage-to-row-row.result) e.gained was) in
+          subst (λ (s : P). Alike (arrows_in m new.links.items) (next k before (ledger.link u v s)).links) c.passage_to_row-row.ensures
+          ((follows g.row.K-PassageRow.Denot V P).gains k before m.leads (links old.links.items) (links new.links.items) (link c.args.u c.args.v c.passage_to_row-row.result) e.gained was) in
           let same : Same after grown = same_by grown after (arrows_in m new.links.items) (λ q. ap (λ w. present_in n w.items q) steady.present) (λ q. ap (λ w. value_in m n w.items q) steady.own) are' alike in
           let long = size m g.met.K.LabelKind.lawful.laws n old.own.items old.links.items old.ranks.items old.order.items sound in
           record {
@@ -153,6 +151,6 @@ returns g c =
               permit = permit_in self.permit;
             };
           });
-      rest = c.link-in-answer.ensures.rest;
+      rest = c.link_in-answer.ensures.rest;
       kept = record { refused = refl; marks = steady.marks };
     }

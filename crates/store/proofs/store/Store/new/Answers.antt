@@ -1,6 +1,5 @@
 use Rattle.std.proofs.Common.{refl}
-use Rattle.tables.proofs.Views.{no_links}
-use Rattle.store.proofs.Views.{same_first}
+use Rattle.store.proofs.Views.{no_links, same_first}
 use Rattle.store.proofs.store.Store.new.Goals as goal
 
 pub returns : goal.returns
@@ -9,7 +8,7 @@ returns g c =
     let cleared = c.clear-tally.ensures in
     let rows = c.clear-tally.new.tables.links.items in
     record {
-      passed = c.in-default.ensures;
+      passed = c.in_default.ensures;
       new = record {
         places = refl;
         limit = refl;

@@ -11,10 +11,8 @@ use Rattle.order.proofs.Props.{opened}
 use Rattle.recompute.specs.Tables.{numbers, value_in, arrows_in}
 use Rattle.recompute.proofs.Grounds.{rising}
 use Rattle.tables.specs.Columns.{present_in}
-use Rattle.tables.specs.View.{links_of}
-use Rattle.store.specs.View.{permit_in, view}
-use Rattle.tables.proofs.Views.{links_are}
-use Rattle.store.proofs.Edits.{settled, put_is}
+use Rattle.store.specs.View.{permit_in, links_of, view}
+use Rattle.store.proofs.Edits.{links_are, settled, put_is}
 use Rattle.store.proofs.store.Store.own.Goals as goal
 
 pub returns : goal.returns
@@ -23,12 +21,12 @@ returns g c =
     let self = c.args.self.now in
     let n = self.n in
     let old = self.tables.now in
-    let new = c.own-in.new.t in
+    let new = c.own_in.new.t in
     let p = c.args.p.0 in
     let x = m.value c.args.label in
-    let list = c.own-in.new.list in
-    let counts = c.own-in.result in
-    let e = c.own-in.ensures.owned in
+    let list = c.own_in.new.list in
+    let counts = c.own_in.result in
+    let e = c.own_in.ensures.owned in
     let low : c.args.p.0 < self.n = omega (arith, c.if-index-self.false, c.index.ensures) in
     let some : 0 < self.n = omega (arith, low) in
     let sound = opened n old.ranks.items old.order.items (links old.links.items) (self.ordered some) in
@@ -44,8 +42,8 @@ returns g c =
     record {
       told = record {
         passed = (
-          λ i. both_ways (is_out (permit_in self.permit)) (sym c.permit-is-out.ensures ∙ c.if-permit-is-out.false) i,
-          (λ l. omega (arith, c.if-list-self.false), (λ l. omega (arith, low), (λ i. both_ways (present_in n old.present.items p) i (sym c.is-present.ensures ∙ c.if-not-is-present.false), tt))),
+          λ i. both_ways (is_out (permit_in self.permit)) (sym c.permit_is_out.ensures ∙ c.if-permit_is_out.false) i,
+          (λ l. omega (arith, c.if-list-self.false), (λ l. omega (arith, low), (λ i. both_ways (present_in n old.present.items p) i (sym c.is_present.ensures ∙ c.if-not-is_present.false), tt))),
         );
         edits = record {
           does = record {
@@ -68,6 +66,6 @@ returns g c =
               old.labels.items new.labels.items list counts e.labels joins);
         };
       };
-      rest = c.own-in.ensures.rest;
+      rest = c.own_in.ensures.rest;
       kept = record { refused = refl; marks = e.marks };
     }

@@ -14,20 +14,18 @@ use Rattle.order.proofs.Props.{opened}
 use Rattle.recompute.specs.Tables.{numbers, value_in, arrows_in}
 use Rattle.recompute.proofs.Grounds.{rising}
 use Rattle.tables.specs.Columns.{present_in}
-use Rattle.tables.specs.View.{links_of}
-use Rattle.store.specs.View.{view}
-use Rattle.tables.proofs.Views.{links_are, is_linked, linked_by}
-use Rattle.store.proofs.Edits.{settled, edited_through, same_by, alike_eq, elim_some, elim_low}
+use Rattle.store.specs.View.{links_of, view}
+use Rattle.store.proofs.Edits.{links_are, settled, edited_through, same_by, alike_eq, is_linked, linked_by, elim_some, elim_low}
 use Rattle.store.proofs.store.Store.unlink.Goals as goal
 
-pub returns-then-not-linked-in : goal.returns-then-not-linked-in
-returns-then-not-linked-in g c =
+pub returns-then-not-linked_in : goal.returns-then-not-linked_in
+returns-then-not-linked_in g c =
     let m = g.K.LabelKind.means in
     let self = c.args.self.now in
     let rows = self.tables.now.links.items in
-    let p = c.in-ok-ends.ensures in
+    let p = c.in_ok-ends.ensures in
     let some : 0 < self.n = elim_some self.n c.args.u.0 p.1.1.0 in
-    let none = λ (h : IsLinked (links_of m self.n rows) c.args.u.0 c.args.v.0). c.linked-in.ensures.no c.if-not-linked-in.true (is_linked m self.n rows some c.args.u.0 c.args.v.0 h) in
+    let none = λ (h : IsLinked (links_of m self.n rows) c.args.u.0 c.args.v.0). c.linked_in.ensures.no c.if-not-linked_in.true (is_linked m self.n rows some c.args.u.0 c.args.v.0 h) in
     record {
       told = record { refused = inr (p.0, inr (p.1.0, inr (p.1.1.0, inr (p.1.1.1.0, inl (none, refl))))); same = refl };
       rest = refl;
@@ -43,13 +41,13 @@ returns g c =
     let self = c.args.self.now in
     let n = self.n in
     let old = self.tables.now in
-    let new = c.unlink-in-counts.new.t in
+    let new = c.unlink_in-counts.new.t in
     let u = c.args.u.0 in
     let v = c.args.v.0 in
-    let list = c.unlink-in-counts.new.list in
-    let counts = c.unlink-in-counts.result in
-    let e = c.unlink-in-counts.ensures.unlinked in
-    let p = c.in-ok-ends.ensures in
+    let list = c.unlink_in-counts.new.list in
+    let counts = c.unlink_in-counts.result in
+    let e = c.unlink_in-counts.ensures.unlinked in
+    let p = c.in_ok-ends.ensures in
     let some : 0 < self.n = elim_some self.n c.args.u.0 p.1.1.0 in
     let low : v < n = elim_low n v u p.1.1.0 in
     let sound = opened n old.ranks.items old.order.items (links old.links.items) (self.ordered some) in
@@ -62,7 +60,7 @@ returns g c =
     let cut : Ledger V P = next k before (ledger.unlink u v) in
     let alike = (follows g.row.K-PassageRow.Denot V P).loses k before m.leads (links old.links.items) (links new.links.items) u v e.lost (alike_eq (arrows_in m old.links.items) before.links (sym are)) in
     let same : Same after cut = same_by cut after (arrows_in m new.links.items) (λ q. ap (λ w. present_in n w.items q) e.present) (λ q. ap (λ w. value_in m n w.items q) e.own) are' alike in
-    let linked : IsLinked (links_of m n old.links.items) u v = linked_by m n old.links.items some u v (c.linked-in.ensures.yes c.if-not-linked-in.false) in
+    let linked : IsLinked (links_of m n old.links.items) u v = linked_by m n old.links.items some u v (c.linked_in.ensures.yes c.if-not-linked_in.false) in
     record {
       told = record {
         passed = (p.0, (p.1.0, (p.1.1.0, (p.1.1.1.0, (λ none. none linked, tt)))));
@@ -76,6 +74,6 @@ returns g c =
               old.labels.items new.labels.items list counts e.labels joins);
         };
       };
-      rest = c.unlink-in-counts.ensures.rest;
+      rest = c.unlink_in-counts.ensures.rest;
       kept = record { refused = refl; marks = e.marks };
     }
