@@ -7,9 +7,9 @@ use Rattle.common.specs.declared.refusal.Refusal.TheVariants.{OutOfRange}
 use Rattle.calendar.specs.Calendar.{InRange}
 use Rattle.calendar.specs.Text.{day_text, day_in, is_date}
 use Rattle.calendar.specs.declared.day.Day.{Day}
-use Rattle.calendar.proofs.Texts.{text_tells}
+use Rattle.calendar.specs.Texts.{text_tells}
 use Rattle.items.specs.Lex.{is_number, value_of}
-use Rattle.items.proofs.Numbers.{number_tells}
+use Rattle.items.specs.Numbers.{number_tells}
 use Rattle.days.specs.Lookup.{Answers}
 
 -- no text is both a date and a number

@@ -42,7 +42,7 @@ pub fn discard_in<K: LabelKind>(
     requires kept { Kept t.old.links.items t.old.heads.items tally.old }
     requires ordered { Ordered n t.old.ranks.items t.old.order.items (row_links t.old.links.items) }
     requires place { p.0 < n }
-    ensures { Discarded means n m p.0 t.old t.new tally.new }
+    ensures { Discarded K.means n m p.0 t.old t.new tally.new }
 {
     let row = K::empty().to_row();
     shut(&mut t.links, &mut t.heads, tally, p);

@@ -31,7 +31,7 @@ pub fn own_in<K: LabelKind>(
     requires clean { Clean n t.old.marks.items }
     requires place { p.0 < n }
     requires list { n ≤ length list.old }
-    ensures owned { Owned means n m p.0 (means.value label) t.old t.new list.new result }
+    ensures owned { Owned K.means n m p.0 (K.means.value label) t.old t.new list.new result }
     ensures rest { drop result.0 list.new ≡ drop result.0 list.old }
 {
     replace_own::<K>(
@@ -66,7 +66,7 @@ pub fn unlink_in<K: LabelKind>(
     requires clean { Clean n t.old.marks.items }
     requires places { (u.0 < n) × (v.0 < n) }
     requires list { n ≤ length list.old }
-    ensures unlinked { Unlinked means n m u.0 v.0 t.old t.new tally.new list.new result }
+    ensures unlinked { Unlinked K.means n m u.0 v.0 t.old t.new tally.new list.new result }
     ensures rest { drop result.0 list.new ≡ drop result.0 list.old }
 {
     remove_link::<K>(
@@ -131,7 +131,7 @@ pub fn link_in<K: LabelKind>(
     requires few { length (row_links t.old.links.items) < m }
     requires fresh { Leads (row_links t.old.links.items) u.0 v.0 → ⊥ }
     ensures steady { Steady n m t.old t.new tally.new }
-    ensures told { MatchResult result (λ c. Linked means n m (link_of u v row) t.old t.new list.new c) (λ e. (e ≡ Circle) × Circles u.0 v.0 t.old t.new) }
+    ensures told { MatchResult result (λ c. Linked K.means n m (link_of u v row) t.old t.new list.new c) (λ e. (e ≡ Circle) × Circles u.0 v.0 t.old t.new) }
     ensures rest { MatchResult result (λ c. drop c.0 list.new ≡ drop c.0 list.old) (λ _. list.new ≡ list.old) }
 {
     add_link::<K>(

@@ -10,7 +10,7 @@ use Rattle.house.specs.declared.expiry.Span.{Span}
 use Rattle.house.specs.declared.expiry.YearCount.{YearCount}
 use Rattle.house.specs.declared.expiry.ExpiryPassageRow.{ExpiryPassageRow}
 use Rattle.house.specs.declared.expiry.ExpiryPassage.TheVariants.{Pass, Cap, Add, Years}
-use Rattle.calendar.proofs.Values.{day_eq}
+use Rattle.calendar.specs.Values.{day_eq}
 use Rattle.house.specs.ValuesLemmas.{expiry_eq, span_eq, years_eq}
 
 shifted_max : (n v w : ℕ) → shifted n (max v w) ≡ max (shifted n v) (shifted n w)

@@ -7,14 +7,14 @@ use Rattle.std.proofs.lemmas.Bool.{eqb-true, eqb-false, cond-true, cond-false, c
 use Rattle.items.specs.Lex.{run, every, word, number, value_of}
 use Rattle.reading.specs.Reading.{ok, bad, Read, item, after, then, give, settled, chosen, pick, spaces, numbers, ends, form_fault}
 use Rattle.reading.specs.Locality.{Unbroken, Local}
-use Rattle.reading.proofs.Alikes.{then_local, give_local, pick_local, either_local, ends_same}
+use Rattle.reading.specs.Alikes.{then_local, give_local, pick_local, either_local, ends_same}
 use Rattle.house.specs.declared.claims.Claims.{Claims}
 use Rattle.house.specs.BitSets.{bit}
 use Rattle.house.specs.ClaimSets.{claims_of}
 use Rattle.house.specs.ValuesLemmas.{claims_eq}
 use Rattle.parts.specs.Parts.{Whole}
-use Rattle.parts.proofs.PairLaws.{unbroken_more}
-use Rattle.parts.proofs.Ones.{ends_shut}
+use Rattle.parts.specs.PairLaws.{unbroken_more}
+use Rattle.parts.specs.Ones.{ends_shut}
 use Rattle.house_text.specs.ClaimsText.{set_part, claims_part, only_part, claims_from, risen, rising, any_rising, some_rising}
 use Rattle.house_text.specs.RiseSteps.{rising_done, rising_more}
 use Rattle.house_text.specs.Runs.{number_back, unbroken_decimal}

@@ -11,13 +11,13 @@ use Rattle.calendar.specs.Text.{day_text}
 use Rattle.items.specs.Lex.{run, every, word, value_of}
 use Rattle.reading.specs.Reading.{ok, Read, item, after, then, give, settled, chosen, pick, spaces, days, day_choice, counts_in, ranged, form_fault}
 use Rattle.reading.specs.Locality.{Unbroken, Local}
-use Rattle.reading.proofs.Alikes.{then_local, give_local, pick_local, either_local}
+use Rattle.reading.specs.Alikes.{then_local, give_local, pick_local, either_local}
 use Rattle.house.specs.declared.expiry.Expiry.{Expiry}
 use Rattle.house.specs.declared.expiry.ExpiryPassage.{ExpiryPassage}
 use Rattle.house.specs.declared.expiry.ExpiryPassage.TheVariants.{Pass, Cap, Add, Years}
 use Rattle.house.specs.Expiries.{expiry_of, day_of, span_of, years_of}
 use Rattle.house.specs.ValuesLemmas.{expiry_eq, span_eq, years_eq}
-use Rattle.calendar.proofs.Values.{day_eq}
+use Rattle.calendar.specs.Values.{day_eq}
 use Rattle.parts.specs.Parts.{Whole}
 use Rattle.house_text.specs.ExpiryText.{until_part, until_body, step_of, cap_body, count_body, step_body, step_word, lets_all, step_first, step_args, step_part}
 use Rattle.house_text.specs.Runs.{number_back, unbroken_decimal, date_back, unbroken_date}

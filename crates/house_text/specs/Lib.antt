@@ -6,3 +6,4 @@ pub mod RiseSteps
 pub mod Runs
 pub mod ExpiryBack
 pub mod LockBack
+pub mod Words

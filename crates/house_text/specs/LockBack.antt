@@ -5,7 +5,7 @@ use Rattle.std.proofs.lemmas.Bool.{eqb-true, both_ways, cond-true, lt-ltb}
 use Rattle.items.specs.Lex.{run, every, word, value_from}
 use Rattle.reading.specs.Reading.{ok, item, then, give, pick, spaces, counts_in, form_fault}
 use Rattle.reading.specs.Locality.{Unbroken, Local}
-use Rattle.reading.proofs.Alikes.{then_local, give_local, pick_local}
+use Rattle.reading.specs.Alikes.{then_local, give_local, pick_local}
 use Rattle.house.specs.declared.lock.Lock.{Lock}
 use Rattle.house.specs.declared.lock.LockPassage.{LockPassage}
 use Rattle.house.specs.declared.lock.LockPassage.TheVariants.{Pass, Most}

@@ -4,13 +4,13 @@ use Rattle.std.proofs.Common.{sym, ap, subst, ◌∙◌, ⊎_elim, arith, length
 use Rattle.std.proofs.lemmas.List.{drop_at, get_or_append_left}
 use Rattle.std.proofs.lemmas.Bool.{and_parts, and_from, and_left, and_right, or_left, or_right, cond-true, cond-false, cases_Bool, lt-leb, leb-true}
 use Rattle.calendar.specs.Text.{digit, is_date, day_in, day_text}
-use Rattle.calendar.proofs.Texts.{text_tells}
+use Rattle.calendar.specs.Texts.{text_tells}
 use Rattle.items.specs.Lex.{Piece, piece, piece_of_run, run, every, in_run, lower, is_word, is_number, number, date, value_of}
-use Rattle.items.proofs.Steps.{piece_rest}
-use Rattle.items.proofs.Numbers.{number_tells}
+use Rattle.items.specs.Steps.{piece_rest}
+use Rattle.items.specs.Numbers.{number_tells}
 use Rattle.reading.specs.Reading.{ok, item, item_by}
 use Rattle.reading.specs.Locality.{Unbroken}
-use Rattle.reading.proofs.Items.{item_some}
+use Rattle.reading.specs.Items.{item_some}
 
 run_stops : (ds : List ℕ) (s : ℕ) (rest : List ℕ) → every in_run ds ≡ true → in_run s ≡ false → run (ds ++ s ∷ rest) ≡ ds
 unfolding run every

@@ -1,5 +1,5 @@
 -- What a sorted thread says of the links. Assumes nothing.
-use Rattle.std.proofs.Common.{◌≡◌, ℕ, suc, ◌-◌, ◌<◌, Bool, true, false, cond, ltb, List, length, get_or, Some, None, Option, sym, refl, ◌∙◌, subst, arith, ltb-false, ltb-true}
+use Rattle.std.proofs.Common.{◌≡◌, ℕ, suc, ◌<◌, Bool, true, false, cond, ltb, List, length, get_or, Some, None, Option, sym, refl, ◌∙◌, subst, arith, ltb-false, ltb-true}
 use Rattle.links.specs.declared.row.Slot.{Slot}
 use Rattle.links.specs.declared.row.LinkRow.{LinkRow}
 use Rattle.links.specs.declared.row.Heads.{Heads}

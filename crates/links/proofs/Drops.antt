@@ -1,5 +1,5 @@
 -- A slot taken out of a sorted thread. Assumes nothing.
-use Rattle.std.proofs.Common.{◌≡◌, ℕ, suc, ◌-◌, ◌<◌, ◌≤◌, ◌⊎◌, sym, refl, ap, ◌∙◌, subst, ⊎_elim, arith}
+use Rattle.std.proofs.Common.{◌≡◌, ℕ, suc, ◌<◌, ◌≤◌, sym, refl, ap, ◌∙◌, subst, ⊎_elim, arith}
 use Rattle.std.proofs.lemmas.Bool.{cases_eq, cases_lt}
 use Rattle.links.specs.Threads.{Threads, Least, Sorted, Single, Bounded, Gap, after}
 use Rattle.links.proofs.Walks.{after_live, after_dead}

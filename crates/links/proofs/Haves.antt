@@ -1,5 +1,5 @@
 -- Links and their slots. Assumes nothing.
-use Rattle.std.proofs.Common.{◌≡◌, ℕ, zero, suc, ◌-◌, ◌⊎◌, List, [], ◌∷◌, get_or, Some, None, Option, ap, ⊎_elim}
+use Rattle.std.proofs.Common.{◌≡◌, ℕ, zero, suc, List, [], ◌∷◌, get_or, Some, None, Option, ap, ⊎_elim}
 use Rattle.std.specs.List.{ContainsAt as Has}
 use Rattle.paths.proofs.Lists.{has_none, has_first, has_later, has_cases}
 use Rattle.links.specs.Table.{somes}

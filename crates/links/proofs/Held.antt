@@ -1,9 +1,9 @@
 -- Slots and links. Assumes nothing.
-use Rattle.std.proofs.Common.{◌≡◌, ℕ, zero, suc, ◌<◌, ◌≤◌, ◌⊎◌, List, [], ◌∷◌, length, get_or, set, Some, None, Option, sym, refl, ap, ◌∙◌, ⊎_elim, arith}
+use Rattle.std.proofs.Common.{◌≡◌, ℕ, zero, suc, ◌<◌, ◌≤◌, List, [], ◌∷◌, length, get_or, set, Some, None, Option, sym, refl, ap, ◌∙◌, ⊎_elim, arith}
 use Rattle.std.proofs.lemmas.Bool.{cases_lt}
 use Rattle.links.specs.declared.row.LinkRow.{LinkRow}
 use Rattle.links.specs.declared.row.Link.{Link}
-use Rattle.links.specs.Table.{Shape, shape, at, link_by, as_link, link_at, somes, links}
+use Rattle.links.specs.Table.{Shape, shape, at, link_by, as_link, link_at, somes}
 
 pub row_at : {R : Type 0} (rows : List (LinkRow R)) (k : ℕ) → k < length rows → (x : LinkRow R) × (at rows k ≡ shape x) × (link_at rows k ≡ as_link x)
 row_at [] k l = absurd (omega arith)

@@ -1,5 +1,5 @@
 -- A table after a link was put in. Assumes nothing.
-use Rattle.std.proofs.Common.{◌≡◌, ℕ, suc, ◌+◌, ◌-◌, ◌<◌, ◌⊎◌, List, length, set, Some, sym, refl, ap, ◌∙◌, subst, ⊎_elim, add-one, arith, length-set}
+use Rattle.std.proofs.Common.{◌≡◌, ℕ, suc, ◌+◌, ◌<◌, List, length, set, Some, sym, refl, ap, ◌∙◌, subst, ⊎_elim, add-one, arith, length-set}
 use lib.ListN.{length-map}
 use Rattle.std.proofs.lemmas.List.{map-set}
 use Rattle.std.proofs.lemmas.Bool.{cases_eq}

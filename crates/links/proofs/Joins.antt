@@ -1,5 +1,5 @@
 -- When a link leads from one place to another, or to a place. Assumes nothing.
-use Rattle.std.proofs.Common.{◌≡◌, ℕ, true, false, not, eqb, ◌⊎◌, ◌↔◌, ⊎_elim, eq-eqb, ne_eqb, eqb-true}
+use Rattle.std.proofs.Common.{◌≡◌, ℕ, true, false, not, eqb, ◌↔◌, ⊎_elim, eq-eqb, ne_eqb, eqb-true}
 use borrow.Author.Tests.{both_ways}
 use Rattle.std.proofs.lemmas.Bool.{cases_Bool, not-true, not_from_false, and_parts, and_from}
 use Rattle.links.specs.declared.row.Link.{Link}

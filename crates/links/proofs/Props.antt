@@ -23,10 +23,10 @@ sorted_prop : (t : Threads) (n : ℕ) → IsProp (Sorted t n)
 sorted_prop t n x y = λ i. record { first = f x.first y.first i; later = l x.later y.later i }
   where
     f : IsProp ((p : ℕ) → p < n → Least t p 0 (t.head p))
-    f = search (props, least_prop)
+    f = hlevel (props, least_prop)
 
     l : IsProp ((k : ℕ) → t.dead k ≡ 0 → Least t (t.hub k) (suc (t.key k)) (t.next k))
-    l = search (props, least_prop)
+    l = hlevel (props, least_prop)
 
 single_prop : (t : Threads) → IsProp (Single t)
 single_prop t x y = λ i. λ j k dj dk h e. ≡_prop coded_ℕ j k (x j k dj dk h e) (y j k dj dk h e) i

@@ -4,8 +4,8 @@ use Rattle.std.proofs.lemmas.List.{map-set}
 use Rattle.links.specs.declared.row.LinkRow.{LinkRow}
 use Rattle.links.specs.declared.row.Heads.{Heads}
 use Rattle.links.specs.declared.row.Side.TheVariants.{Leaving, Entering}
-use Rattle.links.specs.Threads.{Threads, Gap, Single, Sorted, Bounded, after}
-use Rattle.links.specs.Table.{Shape, at, hub, key, view, link, as_link, linked, somes, links, Spliced, Free, Sound, Taken}
+use Rattle.links.specs.Threads.{Threads, Gap, Single, Sorted, Bounded}
+use Rattle.links.specs.Table.{Shape, at, view, as_link, linked, somes, links, Spliced, Free, Sound, Taken}
 use Rattle.links.proofs.Rows.{at_same}
 use Rattle.links.proofs.Walks.{after_live}
 use Rattle.links.proofs.Drops.{Dropped, dropped_sorted, dropped_single}

@@ -1,5 +1,5 @@
 -- The links of a table beside those of the ledger. Assumes nothing.
-use Rattle.std.proofs.Common.{◌≡◌, ℕ, suc, Bool, true, false, cond, not, ◌&&◌, ◌⊎◌, ◌↔◌, List, [], ◌∷◌, map, length, filter, sym, refl, ap, ◌∙◌, subst, subst₂, inl, inr, ⊎_elim}
+use Rattle.std.proofs.Common.{◌≡◌, ℕ, suc, Bool, true, false, cond, not, ◌&&◌, ◌↔◌, List, [], ◌∷◌, map, length, filter, sym, refl, ap, ◌∙◌, subst, subst₂, inl, inr, ⊎_elim}
 use Rattle.std.specs.List.{ContainsAt as Has}
 use Rattle.paths.specs.Kind.{Kind}
 use Rattle.paths.specs.Ledger.{Ledger, Leads, OneEach}

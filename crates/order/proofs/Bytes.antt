@@ -1,5 +1,5 @@
 -- The mark bytes. Assumes nothing.
-use Rattle.std.proofs.Common.{◌≡◌, ℕ, ◌<◌, true, eqb, ◌⊎◌, List, length, get_or, sym, ap, ◌∙◌, ⊎_elim, ext_get_or, eq-eqb}
+use Rattle.std.proofs.Common.{◌≡◌, ℕ, ◌<◌, true, eqb, List, length, get_or, sym, ap, ◌∙◌, ⊎_elim, ext_get_or, eq-eqb}
 use Rattle.std.proofs.lemmas.List.{get_or-take}
 use Rattle.std.proofs.lemmas.Bool.{cases_lt}
 use Rattle.order.specs.Tables.{is_set, marked_in}

@@ -1,5 +1,5 @@
 -- Ranks that are given out again. Assumes nothing.
-use Rattle.std.specs.Prelude.{◌≡◌, ℕ, ◌+◌, ◌-◌, ◌<◌, ◌≤◌, Bool, cond, not, List, length, filter, slice_index, slice_range}
+use Rattle.std.specs.Prelude.{◌≡◌, ℕ, ◌+◌, ◌<◌, ◌≤◌, Bool, cond, not, List, length, filter, slice_index, slice_range}
 use Rattle.std.specs.List.{ContainsAt as Has}
 
 -- no place stands twice

@@ -1,4 +1,2 @@
 pub mod Buffers
-pub mod PairLaws
-pub mod Ones
 pub mod Rooms

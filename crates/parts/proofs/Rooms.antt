@@ -5,7 +5,7 @@ use Rattle.parts.specs.Spelling.{text_by, non_empty, as_text, begun}
 use Rattle.parts.specs.Parts.{Part, inside, one_spaced, one_spells}
 use Rattle.parts.specs.Buffers.{Put, Puts, Rooms}
 use Rattle.parts.proofs.Buffers.{put_none, put_then, fits_second}
-use Rattle.parts.proofs.PairLaws.{text_more, begun_more}
+use Rattle.parts.specs.PairLaws.{text_more, begun_more}
 
 -- the text of two is the text of the first and then that of the second
 pub text_two : (s : Bool) (x y : List ℕ) → text_by s (x ++ y) ≡ text_by s x ++ text_by (s || non_empty x) y

@@ -1,3 +1,5 @@
 pub mod Reading
 pub mod Agree
 pub mod Locality
+pub mod Alikes
+pub mod Items

@@ -74,7 +74,7 @@ fn unlink_all<S: Copy>(rows: &mut Vec<LinkRow<S>>, heads: &mut Vec<Heads>) -> Ta
 pub fn clear<K: LabelKind>(tables: &mut Tables<K::Row, K::PassageRow>, n: usize, m: usize) -> Tally
     requires limits { Limits n m }
     requires room { Room tables.old n m }
-    ensures { Cleared means n m tables.old tables.new result }
+    ensures { Cleared K.means n m tables.old tables.new result }
 {
     let row = K::empty().to_row();
     fill(&mut tables.present, n, false);

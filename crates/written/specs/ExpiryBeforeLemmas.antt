@@ -1,7 +1,7 @@
 use Rattle.std.specs.Prelude.{◌≡◌, ℕ, true, false, List, codes}
 use Rattle.std.specs.Str.{bytes_eq}
 use Rattle.house_text.specs.ExpiryText.{step_word}
-use Rattle.house_text.proofs.Words.{word_apart, neither}
+use Rattle.house_text.specs.Words.{word_apart, neither}
 
 -- a word that is none of three
 pub no_step : (w u : List ℕ) → bytes_eq u (codes "cap") ≡ false → bytes_eq u (codes "add") ≡ false → bytes_eq u (codes "years") ≡ false → bytes_eq w u ≡ true → step_word w ≡ false

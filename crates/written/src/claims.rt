@@ -1,10 +1,10 @@
 // Claims as a written kind.
 ghost use Rattle.parts.specs.Parts.{one_spells};
 ghost use Rattle.house_text.specs.ClaimsText.{claims_part, only_part};
-ghost use Rattle.parts.proofs.Ones.{one_laws};
+ghost use Rattle.parts.specs.Ones.{one_laws};
 ghost use Rattle.house_text.specs.ClaimsBack.{claims_whole, only_whole};
 ghost use Rattle.std.specs.Prelude.{codes, refl};
-ghost use Rattle.house_text.proofs.Words.{word_apart};
+ghost use Rattle.house_text.specs.Words.{word_apart};
 
 use super::kind::{Before, Written};
 use house::{Claims, Lock};

@@ -1,13 +1,13 @@
 // Expiries as a written kind.
 ghost use Rattle.parts.specs.Parts.{one_spells};
 ghost use Rattle.house_text.specs.ExpiryText.{until_part, step_part};
-ghost use Rattle.parts.proofs.Ones.{one_laws};
+ghost use Rattle.parts.specs.Ones.{one_laws};
 ghost use Rattle.house_text.specs.ExpiryBack.{until_whole, step_whole};
 ghost use Rattle.std.proofs.Common.{⊎_elim};
 ghost use Rattle.std.specs.Prelude.{codes, refl};
 ghost use Rattle.std.specs.Str.{bytes_eq};
 ghost use Rattle.std.proofs.lemmas.Bool.{or_cases};
-ghost use Rattle.house_text.proofs.Words.{word_apart};
+ghost use Rattle.house_text.specs.Words.{word_apart};
 ghost use Rattle.written.specs.ExpiryBeforeLemmas.{no_step};
 
 use super::kind::{Before, Written};

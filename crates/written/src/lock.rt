@@ -1,7 +1,7 @@
 // Locks as a written kind.
 ghost use Rattle.parts.specs.Parts.{one_spells};
 ghost use Rattle.house_text.specs.LockText.{lock_part, most_part};
-ghost use Rattle.parts.proofs.Ones.{one_laws};
+ghost use Rattle.parts.specs.Ones.{one_laws};
 ghost use Rattle.house_text.specs.LockBack.{lock_whole, most_whole};
 
 use super::kind::Written;

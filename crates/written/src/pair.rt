@@ -1,6 +1,6 @@
 // The pair of two written kinds that share no word is a written kind.
 ghost use Rattle.parts.specs.Pairing.{pair_spells};
-ghost use Rattle.parts.proofs.PairLaws.{pair_laws};
+ghost use Rattle.parts.specs.PairLaws.{pair_laws};
 
 use super::kind::{Before, Written};
 use kinds::{LabelKind, Pair};

@@ -1,4 +1,4 @@
-use Rattle.std.proofs.Common.{◌≡◌, ℕ, ◌+◌, List, get_or, ap, ◌∙◌, subst, subst₂, arith, rules}
+use Rattle.std.proofs.Common.{◌≡◌, ℕ, ◌+◌, List, ap, ◌∙◌, subst, subst₂, arith, rules}
 use Rattle.links.specs.declared.row.LinkRow.{LinkRow}
 use Rattle.links.specs.declared.row.Side.TheVariants.{Leaving, Entering}
 use Rattle.links.specs.Threads.{Gap}
@@ -15,14 +15,14 @@ seek-a-requires g c = record { sorted = (opened c.args.rows.now c.args.heads.now
 pub seek-b-requires : goal.seek-b-requires
 seek-b-requires g c = record { sorted = (opened c.args.rows.now c.args.heads.now c.args.tally.now c.requires.sound).entering; inside = omega (arith, c.index-to.ensures, c.requires.to) }
 
-pub row-at-top-requires : goal.row-at-top-requires
-row-at-top-requires g c = (top_row c.args.rows.now c.args.heads.now _ _ (opened c.args.rows.now c.args.heads.now c.args.tally.now c.requires.sound) c.requires.room).1
+pub row_at-top-requires : goal.row_at-top-requires
+row_at-top-requires g c = (top_row c.args.rows.now c.args.heads.now _ _ (opened c.args.rows.now c.args.heads.now c.args.tally.now c.requires.sound) c.requires.room).1
 
 pub write-requires : goal.write-requires
 write-requires g c = (top_row c.args.rows.now c.args.heads.now _ _ (opened c.args.rows.now c.args.heads.now c.args.tally.now c.requires.sound) c.requires.room).1
 
-pub overflow-add-tally : goal.overflow-add-tally
-overflow-add-tally g c =
+pub overflow_add-tally : goal.overflow_add-tally
+overflow_add-tally g c =
     let h = (top_row c.args.rows.now c.args.heads.now _ _ (opened c.args.rows.now c.args.heads.now c.args.tally.now c.requires.sound) c.requires.room).0 in
     search rules
 
@@ -49,7 +49,7 @@ returns g c =
     let gb = subst₂ (λ (x y : ℕ). Gap (view Entering rows heads) y x pb ab) c.index-from.ensures c.index-to.ensures c.seek-b.ensures in
     let sa = subst₂ (λ (xs : List (LinkRow g.row.R.Denot)) (x : ℕ). Spliced Leaving xs b heads hb pa x s) c.write.ensures c.index-from.ensures c.splice.ensures in
     let sb = subst (λ (x : ℕ). Spliced Entering b d hb hd pb x s) c.index-to.ensures c.splice-2.ensures in
-    let below : (at rows s).leaving ≡ c.row-at-top.result.leaving.0 = ap (λ (z : Shape). z.leaving) (read rows s c.row-at-top.result room.1 c.row-at-top.ensures) in
+    let below : (at rows s).leaving ≡ c.row_at-top.result.leaving.0 = ap (λ (z : Shape). z.leaving) (read rows s c.row_at-top.result room.1 c.row_at-top.ensures) in
     let i = inserted rows b d heads hb hd count s u v pa aa pb ab t so c.requires.from c.requires.to room.0 c.requires.fresh ga gb
     (c.splice.auto.rows ∙ c.write.auto.rows) c.splice-2.auto.rows c.splice.auto.heads c.splice-2.auto.heads sa sb in
     record {

@@ -11,6 +11,6 @@ returns g c =
     let heads = c.args.heads.now in
     let side = c.args.side in
     let s = c.args.s.0 in
-    let e = c.next-of.ensures ∙ sym (ap (next side) (read rows s c.row-at.result c.requires.inside c.row-at.ensures)) in
-    subst (Next side rows s) (sym (c.slot-in.ensures ∙ ap (slot_of (length rows)) e))
+    let e = c.next_of.ensures ∙ sym (ap (next side) (read rows s c.row_at.result c.requires.inside c.row_at.ensures)) in
+    subst (Next side rows s) (sym (c.slot_in.ensures ∙ ap (slot_of (length rows)) e))
     (next_lowest side rows heads _ _ s (opened rows heads c.args.tally c.requires.sound))

@@ -1,4 +1,4 @@
-use Rattle.std.proofs.Common.{◌≡◌, ℕ, ◌-◌, ◌<◌, List, length, get_or, sym, refl, ap, ◌∙◌, subst, subst₂, arith, rules}
+use Rattle.std.proofs.Common.{◌≡◌, ℕ, ◌-◌, ◌<◌, List, length, get_or, sym, refl, ap, ◌∙◌, subst, subst₂, arith}
 use Rattle.links.specs.declared.row.LinkRow.{LinkRow}
 use Rattle.links.specs.declared.row.Heads.{Heads}
 use Rattle.links.specs.declared.row.Tally.{Tally}
@@ -20,37 +20,37 @@ ends rows heads tally kept s x o is =
     let i = (opened rows heads tally kept).inside s h.1 in
     (omega (arith, i.0, ap (λ (z : Shape). z.source) e), omega (arith, i.1, ap (λ (z : Shape). z.target) e))
 
-pub row-at-row-requires : goal.row-at-row-requires
-row-at-row-requires g c = (held c.args.rows.now c.args.s.0 c.requires.held).0
+pub row_at-row-requires : goal.row_at-row-requires
+row_at-row-requires g c = (held c.args.rows.now c.args.s.0 c.requires.held).0
 
 pub seek-a-requires : goal.seek-a-requires
 seek-a-requires g c =
-    let i = ends c.args.rows.now c.args.heads.now c.args.tally.now c.requires.sound c.args.s.0 c.row-at-row.result c.requires.held c.row-at-row.ensures in
+    let i = ends c.args.rows.now c.args.heads.now c.args.tally.now c.requires.sound c.args.s.0 c.row_at-row.result c.requires.held c.row_at-row.ensures in
     record { sorted = (opened c.args.rows.now c.args.heads.now c.args.tally.now c.requires.sound).leaving; inside = omega (arith, i.0, c.index-from.ensures) }
 
 pub seek-b-requires : goal.seek-b-requires
 seek-b-requires g c =
-    let i = ends c.args.rows.now c.args.heads.now c.args.tally.now c.requires.sound c.args.s.0 c.row-at-row.result c.requires.held c.row-at-row.ensures in
+    let i = ends c.args.rows.now c.args.heads.now c.args.tally.now c.requires.sound c.args.s.0 c.row_at-row.result c.requires.held c.row_at-row.ensures in
     record { sorted = (opened c.args.rows.now c.args.heads.now c.args.tally.now c.requires.sound).entering; inside = omega (arith, i.1, c.index-to.ensures) }
 
 pub splice-requires : goal.splice-requires
 splice-requires g c =
-    let i = ends c.args.rows.now c.args.heads.now c.args.tally.now c.requires.sound c.args.s.0 c.row-at-row.result c.requires.held c.row-at-row.ensures in
+    let i = ends c.args.rows.now c.args.heads.now c.args.tally.now c.requires.sound c.args.s.0 c.row_at-row.result c.requires.held c.row_at-row.ensures in
     omega (arith, i.0, c.index-from.ensures)
 
 pub splice-requires-2 : goal.splice-requires-2
 splice-requires-2 g c =
-    let i = ends c.args.rows.now c.args.heads.now c.args.tally.now c.requires.sound c.args.s.0 c.row-at-row.result c.requires.held c.row-at-row.ensures in
+    let i = ends c.args.rows.now c.args.heads.now c.args.tally.now c.requires.sound c.args.s.0 c.row_at-row.result c.requires.held c.row_at-row.ensures in
     omega (arith, i.1, c.index-to.ensures, c.splice.auto.heads)
 
-pub overflow-sub-left : goal.overflow-sub-left
-overflow-sub-left g c =
+pub overflow_sub-left : goal.overflow_sub-left
+overflow_sub-left g c =
     let o = c.requires.held in
     let e = somes_take (linked c.args.rows.now) c.args.s.0 o.0 o.1 in
     omega (arith, (opened c.args.rows.now c.args.heads.now c.args.tally.now c.requires.sound).counted)
 
-pub overflow-sub-unused : goal.overflow-sub-unused
-overflow-sub-unused g c = let w = (opened c.args.rows.now c.args.heads.now c.args.tally.now c.requires.sound).unused.within in omega arith
+pub overflow_sub-unused : goal.overflow_sub-unused
+overflow_sub-unused g c = let w = (opened c.args.rows.now c.args.heads.now c.args.tally.now c.requires.sound).unused.within in omega arith
 
 pub write-requires : goal.write-requires
 write-requires g c =
@@ -66,11 +66,11 @@ returns g c =
     let d = c.splice-2.new.rows in
     let hb = c.splice.new.heads in
     let hd = c.splice-2.new.heads in
-    let x = c.row-at-row.result in
+    let x = c.row_at-row.result in
     let count = c.args.tally.now.count in
     let free = c.args.tally.now.free in
     let h = held rows s c.requires.held in
-    let e : shape x ≡ at rows s = sym (read rows s x h.0 c.row-at-row.ensures) in
+    let e : shape x ≡ at rows s = sym (read rows s x h.0 c.row_at-row.ensures) in
     let source : c.index-from.result ≡ (at rows s).source = c.index-from.ensures ∙ ap (λ (w : Shape). w.source) e in
     let target : c.index-to.result ≡ (at rows s).target = c.index-to.ensures ∙ ap (λ (w : Shape). w.target) e in
     let z : LinkRow g.row.R.Denot = record { unused = length rows - (count - 1); source = x.source; target = x.target; leaving = free; entering = x.entering; passage = x.passage } in

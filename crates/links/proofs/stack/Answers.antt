@@ -8,7 +8,7 @@ pub loop-k-preserved : goal.loop-k-preserved
 loop-k-preserved g c =
     let rows = c.loop-k.rows in
     let k = c.loop-k.k in
-    let x = c.row-at-row.result in
+    let x = c.row_at-row.result in
     let y : LinkRow g.row.R.Denot = record { unused = k + 1; source = x.source; target = x.target; leaving = record { 0 = c.loop-k.below }; entering = x.entering; passage = x.passage } in
     let lt : k < length rows = omega arith in (
       subst (λ (xs : List (LinkRow g.row.R.Denot)). Stacked xs (k + 1)) (sym c.write.ensures) (below_more (λ j. ((at (set rows k y) j).unused ≡ j + 1) × ((at (set rows k y) j).leaving ≡ j - 1)) k

@@ -5,5 +5,5 @@ use Rattle.order.proofs.deal.Given as goal
 
 abbrev pub invariant-loop-r : goal.invariant-loop-r
 invariant-loop-r l =
-    Dealt (met l.inside (marked_in l.n l.marks) l.from l.r (order_in l.n l.place-at)) l.start (rank_in l.initial.rank-of) (rank_in l.rank-of)
-    × (l.next ≡ l.start + length (met l.inside (marked_in l.n l.marks) l.from l.r (order_in l.n l.place-at)))
+    Dealt (met l.inside (marked_in l.n l.marks) l.from l.r (order_in l.n l.place_at)) l.start (rank_in l.initial.rank_of) (rank_in l.rank_of)
+    × (l.next ≡ l.start + length (met l.inside (marked_in l.n l.marks) l.from l.r (order_in l.n l.place_at)))

@@ -5,4 +5,4 @@ use Rattle.order.specs.Forward.{Reached}
 use Rattle.order.proofs.forward.Given as goal
 
 abbrev pub invariant-loop-r : goal.invariant-loop-r
-invariant-loop-r g l = Reached (links_in (links l.rows)) (rank_in l.rank-of) l.n l.v.0 l.r (marked_in l.n l.marks) × Beyond l.n l.initial.marks l.marks
+invariant-loop-r g l = Reached (links_in (links l.rows)) (rank_in l.rank_of) l.n l.v.0 l.r (marked_in l.n l.marks) × Beyond l.n l.initial.marks l.marks

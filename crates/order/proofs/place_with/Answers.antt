@@ -3,4 +3,4 @@ use Rattle.order.proofs.Ways.{place_at}
 use Rattle.order.proofs.place_with.Goals as goal
 
 pub returns : goal.returns
-returns c = ap (λ (i : ℕ). (get_or c.args.place-at.now i (record { 0 = 0 })).0) c.index.ensures ∙ sym (place_at c.args.place-at.now c.args.r.0 (record { 0 = 0 }) c.requires)
+returns c = ap (λ (i : ℕ). (get_or c.args.place_at.now i (record { 0 = 0 })).0) c.index.ensures ∙ sym (place_at c.args.place_at.now c.args.r.0 (record { 0 = 0 }) c.requires)

@@ -19,7 +19,7 @@ use tables::{Tables, clear, read, refusal, write};
 impl<'a, K: LabelKind> Store<'a, K> {
     // Makes a store of n places for at most m links. Where the sizes or the tables are refused, the store has no places, and `made` says why.
     pub fn new(tables: &'a mut Tables<K::Row, K::PassageRow>, n: usize, m: usize) -> Store<'a, K>
-        ensures { Makes means tables.old n m result }
+        ensures { Makes K.means tables.old n m result }
     {
         if let Some(e) = refusal(&*tables, n, m) {
             return Store {
@@ -75,7 +75,7 @@ impl<K: LabelKind> Store<'_, K> {
 
     // The checks that link and unlink share: no permit is out, the list is long enough, and both places are there and present.
     fn ends(&self, u: PlaceNumber, v: PlaceNumber, room: usize) -> Result<(), Refusal>
-        ensures { MatchResult result (λ _. Passed (end_checks (view means self.now) u.0 v.0 room)) (λ e. Refused (end_checks (view means self.now) u.0 v.0 room) e) }
+        ensures { MatchResult result (λ _. Passed (end_checks (view K.means self.now) u.0 v.0 room)) (λ e. Refused (end_checks (view K.means self.now) u.0 v.0 room) e) }
     {
         if self.permit_is_out() {
             return Err(Refusal::PermitOut);
@@ -97,7 +97,7 @@ impl<K: LabelKind> Store<'_, K> {
 
     // Makes an absent place present.
     pub fn bring(&mut self, p: PlaceNumber) -> Result<(), Refusal>
-        ensures told { MatchResult result (λ _. Accepts means.kind means.free (view means self.old) (bringing p.0) (view means self.new)) (λ e. Refuses means.kind means.free (view means self.old) (bringing p.0) e (view means self.new)) }
+        ensures told { MatchResult result (λ _. Accepts K.means.kind K.means.free (view K.means self.old) (bringing p.0) (view K.means self.new)) (λ e. Refuses K.means.kind K.means.free (view K.means self.old) (bringing p.0) e (view K.means self.new)) }
         ensures kept { Keeps self.old self.new }
     {
         if self.permit_is_out() {
@@ -115,8 +115,8 @@ impl<K: LabelKind> Store<'_, K> {
 
     // The label of a place.
     pub fn label(&self, p: PlaceNumber) -> Result<K, Refusal>
-        ensures told { MatchResult result (λ l. Passed (checks means.free (view means self.now) (asking p.0)) × (means.value l ≡ (view means self.now).label p.0)) (λ e. Refused (checks means.free (view means self.now) (asking p.0)) e) }
-        ensures join { AreJoins means.kind (view means self.now).ledger (view means self.now).label → IfOk result (λ l. IsJoin means.kind (view means self.now).ledger p.0 (means.value l)) }
+        ensures told { MatchResult result (λ l. Passed (checks K.means.free (view K.means self.now) (asking p.0)) × (K.means.value l ≡ (view K.means self.now).label p.0)) (λ e. Refused (checks K.means.free (view K.means self.now) (asking p.0)) e) }
+        ensures join { AreJoins K.means.kind (view K.means self.now).ledger (view K.means self.now).label → IfOk result (λ l. IsJoin K.means.kind (view K.means self.now).ledger p.0 (K.means.value l)) }
     {
         if p.index() >= self.n {
             return Err(Refusal::NoSuchPlace);
@@ -134,7 +134,7 @@ impl<K: LabelKind> Store<'_, K> {
         label: K,
         list: &mut [PlaceNumber],
     ) -> Result<(usize, usize), Refusal>
-        ensures told { MatchResult result (λ c. EditAccepts means (view means self.old) (owning p.0 (means.value label) (length list.old)) p.0 list.new c (view means self.new)) (λ e. Refuses means.kind means.free (view means self.old) (owning p.0 (means.value label) (length list.old)) e (view means self.new)) }
+        ensures told { MatchResult result (λ c. EditAccepts K.means (view K.means self.old) (owning p.0 (K.means.value label) (length list.old)) p.0 list.new c (view K.means self.new)) (λ e. Refuses K.means.kind K.means.free (view K.means self.old) (owning p.0 (K.means.value label) (length list.old)) e (view K.means self.new)) }
         ensures rest { MatchResult result (λ c. drop c.0 list.new ≡ drop c.0 list.old) (λ _. list.new ≡ list.old) }
         ensures kept { Keeps self.old self.new }
     {
@@ -163,7 +163,7 @@ impl<K: LabelKind> Store<'_, K> {
         v: PlaceNumber,
         list: &mut [PlaceNumber],
     ) -> Result<(usize, usize), Refusal>
-        ensures told { MatchResult result (λ c. EditAccepts means (view means self.old) (unlinking u.0 v.0 (length list.old)) v.0 list.new c (view means self.new)) (λ e. Refuses means.kind means.free (view means self.old) (unlinking u.0 v.0 (length list.old)) e (view means self.new)) }
+        ensures told { MatchResult result (λ c. EditAccepts K.means (view K.means self.old) (unlinking u.0 v.0 (length list.old)) v.0 list.new c (view K.means self.new)) (λ e. Refuses K.means.kind K.means.free (view K.means self.old) (unlinking u.0 v.0 (length list.old)) e (view K.means self.new)) }
         ensures rest { MatchResult result (λ c. drop c.0 list.new ≡ drop c.0 list.old) (λ _. list.new ≡ list.old) }
         ensures kept { Keeps self.old self.new }
     {
@@ -187,7 +187,7 @@ impl<K: LabelKind> Store<'_, K> {
         passage: K::Passage,
         list: &mut [PlaceNumber],
     ) -> Result<(usize, usize), Refusal>
-        ensures told { MatchResult result (λ c. EditAccepts means (view means self.old) (linking u.0 v.0 passage (length list.old)) v.0 list.new c (view means self.new)) (λ e. Refuses means.kind means.free (view means self.old) (linking u.0 v.0 passage (length list.old)) e (view means self.new)) }
+        ensures told { MatchResult result (λ c. EditAccepts K.means (view K.means self.old) (linking u.0 v.0 passage (length list.old)) v.0 list.new c (view K.means self.new)) (λ e. Refuses K.means.kind K.means.free (view K.means self.old) (linking u.0 v.0 passage (length list.old)) e (view K.means self.new)) }
         ensures rest { MatchResult result (λ c. drop c.0 list.new ≡ drop c.0 list.old) (λ _. list.new ≡ list.old) }
         ensures kept { Keeps self.old self.new }
     {

@@ -30,7 +30,7 @@ impl<K: LabelKind> Store<'_, K> {
     // Whether the label of a place is free on the day.
     fn is_free(&self, p: PlaceNumber, day: Day) -> bool
         requires { p.0 < self.now.n }
-        ensures { result ≡ means.free day.number ((view means self.now).label p.0) }
+        ensures { result ≡ K.means.free day.number ((view K.means self.now).label p.0) }
     {
         K::from_row(read(&self.tables.labels, p)).is_free(day)
     }
@@ -38,8 +38,8 @@ impl<K: LabelKind> Store<'_, K> {
     // Whether a link leaves a place.
     fn has_leaving(&self, p: PlaceNumber) -> bool
         requires { p.0 < self.now.n }
-        ensures yes { result ≡ true → Leaves (view means self.now).ledger.links p.0 }
-        ensures no { result ≡ false → Leaves (view means self.now).ledger.links p.0 → ⊥ }
+        ensures yes { result ≡ true → Leaves (view K.means self.now).ledger.links p.0 }
+        ensures no { result ≡ false → Leaves (view K.means self.now).ledger.links p.0 → ⊥ }
     {
         let tally = self.tally;
         links::leaves(
@@ -52,7 +52,7 @@ impl<K: LabelKind> Store<'_, K> {
 
     // Hands out a permit to erase a place that is free on the day and that no link leaves.
     pub fn grant(&mut self, p: PlaceNumber, day: Day) -> Result<Permit, Refusal>
-        ensures told { MatchResult result (λ x. Accepts means.kind means.free (view means self.old) (granting p.0 day.number) (view means self.new) × (x ≡ permit_for p day)) (λ e. Refuses means.kind means.free (view means self.old) (granting p.0 day.number) e (view means self.new)) }
+        ensures told { MatchResult result (λ x. Accepts K.means.kind K.means.free (view K.means self.old) (granting p.0 day.number) (view K.means self.new) × (x ≡ permit_for p day)) (λ e. Refuses K.means.kind K.means.free (view K.means self.old) (granting p.0 day.number) e (view K.means self.new)) }
         ensures kept { Keeps self.old self.new }
     {
         if self.permit_is_out() {
@@ -76,7 +76,7 @@ impl<K: LabelKind> Store<'_, K> {
 
     // Takes the permit that is out, and answers one for another day. A refusal hands it back.
     pub fn renew(&mut self, permit: Permit, day: Day) -> Result<Permit, (Refusal, Permit)>
-        ensures told { MatchResult result (λ x. Accepts means.kind means.free (view means self.old) (renewing permit.place.0 permit.day.number day.number) (view means self.new) × (x ≡ permit_for permit.place day)) (λ e. Refuses means.kind means.free (view means self.old) (renewing permit.place.0 permit.day.number day.number) e.0 (view means self.new) × (e.1 ≡ permit)) }
+        ensures told { MatchResult result (λ x. Accepts K.means.kind K.means.free (view K.means self.old) (renewing permit.place.0 permit.day.number day.number) (view K.means self.new) × (x ≡ permit_for permit.place day)) (λ e. Refuses K.means.kind K.means.free (view K.means self.old) (renewing permit.place.0 permit.day.number day.number) e.0 (view K.means self.new) × (e.1 ≡ permit)) }
         ensures kept { Keeps self.old self.new }
     {
         if !self.is_out(&permit) {
@@ -93,7 +93,7 @@ impl<K: LabelKind> Store<'_, K> {
 
     // Spends the permit, whether or not it is the one that is out.
     pub fn give_back(&mut self, permit: Permit) -> Result<(), Refusal>
-        ensures told { MatchResult result (λ _. Accepts means.kind means.free (view means self.old) (giving permit.place.0 permit.day.number) (view means self.new)) (λ e. Refuses means.kind means.free (view means self.old) (giving permit.place.0 permit.day.number) e (view means self.new)) }
+        ensures told { MatchResult result (λ _. Accepts K.means.kind K.means.free (view K.means self.old) (giving permit.place.0 permit.day.number) (view K.means self.new)) (λ e. Refuses K.means.kind K.means.free (view K.means self.old) (giving permit.place.0 permit.day.number) e (view K.means self.new)) }
         ensures kept { Keeps self.old self.new }
     {
         let ours = self.is_out(&permit);
@@ -107,7 +107,7 @@ impl<K: LabelKind> Store<'_, K> {
 
     // Spends the permit that is out, takes every link into its place away, empties its own label and its label, and makes it absent.
     pub fn discard(&mut self, permit: Permit) -> Result<(), (Refusal, Permit)>
-        ensures told { MatchResult result (λ _. Accepts means.kind means.free (view means self.old) (discarding permit.place.0 permit.day.number) (view means self.new)) (λ e. Refuses means.kind means.free (view means self.old) (discarding permit.place.0 permit.day.number) e.0 (view means self.new) × (e.1 ≡ permit)) }
+        ensures told { MatchResult result (λ _. Accepts K.means.kind K.means.free (view K.means self.old) (discarding permit.place.0 permit.day.number) (view K.means self.new)) (λ e. Refuses K.means.kind K.means.free (view K.means self.old) (discarding permit.place.0 permit.day.number) e.0 (view K.means self.new) × (e.1 ≡ permit)) }
         ensures kept { Keeps self.old self.new }
     {
         if !self.is_out(&permit) {

@@ -1,6 +1,6 @@
 use Rattle.std.proofs.Common.{◌+◌, ◌<◌, arith}
 use Rattle.calendar.specs.Calendar.{before_year}
-use Rattle.calendar.proofs.Rules.{not_last}
+use Rattle.calendar.specs.Rules.{not_last}
 use Rattle.calendar.proofs.convert.year_index.Goals as goal
 
 pub loop-k-init : goal.loop-k-init

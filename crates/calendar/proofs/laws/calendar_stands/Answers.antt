@@ -1,7 +1,7 @@
 use Rattle.std.proofs.Common.{refl}
 use Rattle.calendar.specs.Calendar.{before_year, before_month, month_length}
-use Rattle.calendar.proofs.Dates.{days_are_dates, test_tells}
-use Rattle.calendar.proofs.Texts.{text_tells}
+use Rattle.calendar.specs.Dates.{days_are_dates, test_tells}
+use Rattle.calendar.specs.Texts.{text_tells}
 use Rattle.calendar.proofs.laws.calendar_stands.Goals as goal
 
 pub returns : goal.returns

@@ -1,5 +1,5 @@
 use Rattle.std.proofs.Common.{sym}
-use Rattle.calendar.proofs.Values.{date_eq}
+use Rattle.calendar.specs.Values.{date_eq}
 use Rattle.calendar.proofs.laws.date_and_back.Goals as goal
 
 pub returns : goal.returns

@@ -1,6 +1,6 @@
 use Rattle.std.proofs.Common.{◌∙◌}
-use Rattle.calendar.proofs.Dates.{test_tells}
-use Rattle.calendar.proofs.Values.{ok_is}
+use Rattle.calendar.specs.Dates.{test_tells}
+use Rattle.calendar.specs.Values.{ok_is}
 use Rattle.calendar.proofs.laws.day_and_back.Goals as goal
 
 pub returns : goal.returns

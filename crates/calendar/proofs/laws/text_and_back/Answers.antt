@@ -1,6 +1,6 @@
 use Rattle.std.proofs.Common.{◌∙◌}
-use Rattle.calendar.proofs.Texts.{text_tells}
-use Rattle.calendar.proofs.Values.{ok_is}
+use Rattle.calendar.specs.Texts.{text_tells}
+use Rattle.calendar.specs.Values.{ok_is}
 use Rattle.calendar.proofs.laws.text_and_back.Goals as goal
 
 pub returns : goal.returns

@@ -1,6 +1,6 @@
 use Rattle.std.proofs.Common.{sym, ap, ◌∙◌, arith}
 use Rattle.calendar.specs.Calendar.{month_length}
-use Rattle.calendar.proofs.Rules.{month_more, december}
+use Rattle.calendar.specs.Rules.{month_more, december}
 use Rattle.calendar.proofs.tables.days_in.Goals as goal
 
 pub overflow_sub-result : goal.overflow_sub-result

@@ -1,6 +1,6 @@
 use Rattle.std.proofs.Common.{◌≡◌, ◌+◌, ◌-◌, eqb, ap, ◌∙◌, arith}
 use Rattle.calendar.specs.Calendar.{leap, year_length}
-use Rattle.calendar.proofs.Rules.{year_more, length_tells}
+use Rattle.calendar.specs.Rules.{year_more, length_tells}
 use Rattle.calendar.proofs.tables.is_long.Goals as goal
 
 pub overflow_sub-result : goal.overflow_sub-result

@@ -1,6 +1,6 @@
 use Rattle.std.proofs.Common.{sym, ap, ◌∙◌}
 use Rattle.calendar.specs.Calendar.{before_month}
-use Rattle.calendar.proofs.Rules.{plain_right, long_right}
+use Rattle.calendar.specs.Rules.{plain_right, long_right}
 use Rattle.calendar.proofs.tables.month_start.Goals as goal
 
 pub returns-then-long : goal.returns-then-long

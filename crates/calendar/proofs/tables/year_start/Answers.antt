@@ -1,4 +1,4 @@
-use Rattle.calendar.proofs.Rules.{years_right}
+use Rattle.calendar.specs.Rules.{years_right}
 use Rattle.calendar.proofs.tables.year_start.Goals as goal
 
 pub returns : goal.returns

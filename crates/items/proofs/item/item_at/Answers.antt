@@ -1,7 +1,7 @@
 use Rattle.std.proofs.Common.{◌≡◌, get_or, drop, sym, refl, ap, ◌∙◌, subst, arith, MatchOption}
 use Rattle.items.specs.Lex.{piece, piece_of_run, no_item, Piece}
 use Rattle.items.specs.Seen.{seen, place}
-use Rattle.items.proofs.Steps.{piece_at, piece_rest, past}
+use Rattle.items.specs.Steps.{piece_at, piece_rest, past}
 use Rattle.items.proofs.item.item_at.Goals as goal
 
 pub returns-in-40 : goal.returns-in-40

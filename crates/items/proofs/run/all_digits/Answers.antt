@@ -1,7 +1,7 @@
 use Rattle.std.proofs.Common.{◌+◌, ◌&&◌, drop, sym, ap, ◌∙◌}
 use Rattle.items.specs.Lex.{every}
 use Rattle.calendar.specs.Text.{digit}
-use Rattle.items.proofs.Steps.{every_more, every_end}
+use Rattle.items.specs.Steps.{every_more, every_end}
 use Rattle.items.proofs.run.all_digits.Goals as goal
 
 pub loop-b-preserved : goal.loop-b-preserved

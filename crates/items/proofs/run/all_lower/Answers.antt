@@ -1,6 +1,6 @@
 use Rattle.std.proofs.Common.{◌+◌, ◌&&◌, drop, sym, ap, ◌∙◌}
 use Rattle.items.specs.Lex.{every, lower}
-use Rattle.items.proofs.Steps.{every_more, every_end}
+use Rattle.items.specs.Steps.{every_more, every_end}
 use Rattle.items.proofs.run.all_lower.Goals as goal
 
 pub loop-b-preserved : goal.loop-b-preserved

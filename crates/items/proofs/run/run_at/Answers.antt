@@ -1,6 +1,6 @@
 use Rattle.std.proofs.Common.{◌≡◌, [], drop, sym, arith, rules}
 use Rattle.items.specs.Lex.{run}
-use Rattle.items.proofs.Steps.{run_grows, run_done, run_stop, run_end}
+use Rattle.items.specs.Steps.{run_grows, run_done, run_stop, run_end}
 use Rattle.items.proofs.run.run_at.Goals as goal
 use Rattle.items.proofs.run.run_at.Goals.{then-loop-end-test+else-runs_on, else-loop-end-test}
 

@@ -1,5 +1,5 @@
 use Rattle.std.proofs.Common.{sym, ◌∙◌, arith}
-use Rattle.items.proofs.Numbers.{digit_at, cap_at, pow_more, value_more, value_end}
+use Rattle.items.specs.Numbers.{digit_at, cap_at, pow_more, value_more, value_end}
 use Rattle.items.proofs.run.value.Goals as goal
 
 pub overflow_mul-n : goal.overflow_mul-n

@@ -3,7 +3,7 @@ use Rattle.items.specs.Seen.{seen}
 use Rattle.reading.specs.Reading.{item, ok}
 use Rattle.reading.specs.Agree.{Reads}
 use Rattle.reading.specs.declared.fault.Fault.{Fault}
-use Rattle.reading.proofs.Items.{item_end, item_at_lem, no_item_at}
+use Rattle.reading.specs.Items.{item_end, item_at_lem, no_item_at}
 use Rattle.reading.proofs.item.take_item.Goals as goal
 
 pub returns-then-at-text : goal.returns-then-at-text

@@ -3,7 +3,7 @@ use Rattle.std.proofs.lemmas.Bool.{both_ways}
 use Rattle.items.specs.Lex.{is_number}
 use Rattle.items.specs.Seen.{seen}
 use Rattle.reading.specs.Reading.{ok}
-use Rattle.reading.proofs.Items.{number_item}
+use Rattle.reading.specs.Items.{number_item}
 use Rattle.reading.proofs.value.take_number.Goals as goal
 
 -- a number item is a number

@@ -1,4 +1,4 @@
-use Rattle.parts.proofs.PairLaws.{again}
+use Rattle.parts.specs.PairLaws.{again}
 use Rattle.written.proofs.law.written_stands.Goals as goal
 
 pub returns : goal.returns

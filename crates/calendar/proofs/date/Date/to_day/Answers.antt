@@ -1,6 +1,6 @@
 use Rattle.std.proofs.Common.{◌+◌, ◌-◌, ◌≤◌, arith}
 use Rattle.calendar.specs.Calendar.{before_year, before_month, month_length}
-use Rattle.calendar.proofs.Rules.{in_range}
+use Rattle.calendar.specs.Rules.{in_range}
 use Rattle.calendar.proofs.date.Date.to_day.Goals as goal
 use Rattle.calendar.proofs.date.Date.to_day.Goals.{After-month_start}
 

@@ -1,7 +1,7 @@
 use Rattle.std.proofs.Common.{◌≡◌, ◌+◌, ◌-◌, subst, arith}
 use Rattle.calendar.specs.Calendar.{leap, before_year, before_month, FallsOn}
-use Rattle.calendar.proofs.Rules.{month_short}
-use Rattle.calendar.proofs.Dates.{placed, one_date, date_is}
+use Rattle.calendar.specs.Rules.{month_short}
+use Rattle.calendar.specs.Dates.{placed, one_date, date_is}
 use Rattle.calendar.proofs.day.Day.date.Goals as goal
 use Rattle.calendar.proofs.day.Day.date.Goals.{After-month_start}
 

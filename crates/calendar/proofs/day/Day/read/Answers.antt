@@ -4,7 +4,7 @@ use Rattle.std.proofs.lemmas.Bool.{cond-true, cond-false}
 use Rattle.std.proofs.lemmas.Result.{MatchResult-weaker}
 use Rattle.calendar.specs.Calendar.{day_if}
 use Rattle.calendar.specs.Text.{is_date, day_in}
-use Rattle.calendar.proofs.Values.{number_in, text_of}
+use Rattle.calendar.specs.Values.{number_in, text_of}
 use Rattle.calendar.proofs.day.Day.read.Goals as goal
 
 pub returns-in-Some : goal.returns-in-Some

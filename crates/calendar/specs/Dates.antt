@@ -3,7 +3,7 @@ use Rattle.std.proofs.Common.{◌≡◌, ℕ, zero, suc, ◌+◌, ◌-◌, ◌<�
 use Rattle.std.proofs.lemmas.Bool.{cond-true, cond-false, and_from, and_parts, le-leb, leb-true, leb-false, cases_Bool, cases_eq, cases_order}
 use Rattle.calendar.specs.Calendar.{leap, year_length, before_year, before_month, month_length, day_number, Exists, FallsOn, InRange, exists, last_at_most, years_to, year_of, month_of, day_of}
 use Rattle.calendar.specs.Theorems.{DaysAreDates, TestTells}
-use Rattle.calendar.proofs.Rules.{years_right, year_more, month_more, month_top, december, year_end, in_range, dated}
+use Rattle.calendar.specs.Rules.{years_right, year_more, month_more, month_top, december, year_end, in_range, dated}
 
 -- the last one up to t
 last_top : (f : ℕ → ℕ) (n t : ℕ) → last_at_most f n t ≤ t

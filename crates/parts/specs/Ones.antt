@@ -4,10 +4,10 @@ use Rattle.std.proofs.lemmas.Bool.{or_left, or_right, and_right, both_ways, cond
 use Rattle.items.specs.Lex.{word}
 use Rattle.reading.specs.Reading.{Out, ok, bad, Read, after, then, give, item, settled, chosen, pick, opens, closes, spaces, words, ends, form_fault}
 use Rattle.reading.specs.Locality.{Unbroken, Local, Alike}
-use Rattle.reading.proofs.Alikes.{then_local, give_local, pick_local, either_local, ends_same}
+use Rattle.reading.specs.Alikes.{then_local, give_local, pick_local, either_local, ends_same}
 use Rattle.parts.specs.Spelling.{Spelling, Spells, Onward, shut, other, Fronts, as_text, text_by, begun, non_empty, gap, entry, ahead}
 use Rattle.parts.specs.Parts.{Part, Whole, strange, passes, closing, filling, own_part, inside, one_reading, one_spaced, one_spells}
-use Rattle.parts.proofs.PairLaws.{unbroken_more}
+use Rattle.parts.specs.PairLaws.{unbroken_more}
 
 -- the word of the first part
 pub entry_at : (names : List ℕ → Bool) (s : Bool) (w r : List ℕ) → names w ≡ true → item (w ++ r) ≡ ok (word w) r → entry names s (text_by s (32 ∷ 40 ∷ (w ++ r))) ≡ ok w r

@@ -1,6 +1,6 @@
 -- The rules of the fixed tables: each is one test that antt computes over the whole table, carried to each entry by a lemma. Assumes nothing.
 use Rattle.std.proofs.Common.{◌≡◌, ℕ, zero, suc, ◌+◌, ◌-◌, ◌<◌, ◌≤◌, Bool, true, false, cond, T, eqb, leb, List, [], ◌∷◌, length, get_or, drop, sym, refl, ap, ◌∙◌, subst, ⊎_elim, le_of_suc-le-suc, not-suc-le-zero, add-zero, add-suc, suc-add, zero-add, add-one, arith, eqb→eq, leb→le}
-use Rattle.std.proofs.str.Laws.{order}
+use Rattle.std.proofs.lemmas.Bool.{cases_lt}
 use Rattle.calendar.specs.Calendar.{leap, year_length, before_year, before_month, month_length, day_number, Exists}
 
 abbrev both : Bool → Bool → Bool
@@ -131,7 +131,7 @@ in_range k m l h e a b =
 pub not_last : (j n : ℕ) → j < 231 → before_year j ≤ n → n ≤ 84005 → j < 230
 unfolding before_year
 not_last j n h a b =
-    ⊎_elim (λ q. q) (λ q. let e : j ≡ 230 = omega arith in absurd (let z : before_year j ≡ 84006 = ap before_year e in omega arith)) (order j 230)
+    ⊎_elim (λ q. q) (λ q. let e : j ≡ 230 = omega arith in absurd (let z : before_year j ≡ 84006 = ap before_year e in omega arith)) (cases_lt j 230)
 
 pub year_end : (l : Bool) → before_month l 12 + 31 ≡ cond l 366 365
 unfolding before_month

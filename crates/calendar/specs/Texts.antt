@@ -4,8 +4,8 @@ use Rattle.std.proofs.lemmas.Bool.{cond-true, and_from, and_parts, le-leb, leb-t
 use Rattle.calendar.specs.Calendar.{leap, FallsOn, InRange, day_if, year_of, month_of, day_of}
 use Rattle.calendar.specs.Text.{digit, date_text, day_text, digits_at, two_at, is_date, day_in}
 use Rattle.calendar.specs.Theorems.{TextTells}
-use Rattle.calendar.proofs.Rules.{month_short}
-use Rattle.calendar.proofs.Dates.{computed, date_is, ranged, test_tells}
+use Rattle.calendar.specs.Rules.{month_short}
+use Rattle.calendar.specs.Dates.{computed, date_is, ranged, test_tells}
 
 -- a list of ten bytes, byte by byte
 ten_of : (r : List ℕ) → length r ≡ 10 → r ≡ get_or r 0 0 ∷ get_or r 1 0 ∷ get_or r 2 0 ∷ get_or r 3 0 ∷ get_or r 4 0 ∷ get_or r 5 0 ∷ get_or r 6 0 ∷ get_or r 7 0 ∷ get_or r 8 0 ∷ get_or r 9 0 ∷ []

@@ -10,7 +10,7 @@ use Rattle.calendar.specs.declared.day.Day.{Day}
 use Rattle.calendar.specs.declared.date.Date.{Date}
 use Rattle.calendar.specs.Calendar.{InRange}
 use Rattle.calendar.specs.Text.{day_text, day_in}
-use Rattle.calendar.proofs.Texts.{text_tells}
+use Rattle.calendar.specs.Texts.{text_tells}
 
 pub day_eq : (x y : Day) → x.number ≡ y.number → x ≡ y
 day_eq x y e =

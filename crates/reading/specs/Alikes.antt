@@ -4,7 +4,7 @@ use Rattle.std.proofs.lemmas.Bool.{both_ways}
 use Rattle.std.proofs.lemmas.List.{drop-append-le}
 use Rattle.items.specs.Lex.{Piece, piece_by, run, in_run, newline, open_bracket, close_bracket, space, word, number, date, no_item}
 use Rattle.reading.specs.Reading.{Out, ok, bad, Flaw, Read, after, then, give, item, item_by, size, Choice, take_it, refuse, chosen, settled, pick, ends}
-use Rattle.reading.proofs.Items.{size_fits, run_fits}
+use Rattle.reading.specs.Items.{size_fits, run_fits}
 use Rattle.reading.specs.Locality.{Unbroken, Alike, Local}
 
 unbroken_drop : (n : ℕ) (bs : List ℕ) → Unbroken bs → Unbroken (drop n bs)

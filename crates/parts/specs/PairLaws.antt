@@ -3,7 +3,7 @@ use Rattle.std.proofs.Common.{◌≡◌, ℕ, Bool, true, false, cond, ◌||◌,
 use Rattle.std.proofs.lemmas.Bool.{or_left, or_right, both_ways}
 use Rattle.reading.specs.Reading.{Out, ok, bad, Read, after, then, give}
 use Rattle.reading.specs.Locality.{Unbroken, Local}
-use Rattle.reading.proofs.Alikes.{then_local, give_local}
+use Rattle.reading.specs.Alikes.{then_local, give_local}
 use Rattle.kinds.specs.declared.pair.Pair.{Pair}
 use Rattle.parts.specs.Spelling.{Spelling, Spells, Onward, shut, other, Fronts, Apart, Again, as_text, text_by, begun, non_empty, ahead}
 use Rattle.parts.specs.Pairing.{pair_spells, pair_names, second_reading, both}

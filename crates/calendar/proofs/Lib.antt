@@ -1,4 +1,0 @@
-pub mod Rules
-pub mod Dates
-pub mod Texts
-pub mod Values
