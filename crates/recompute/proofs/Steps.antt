@@ -1,12 +1,11 @@
 -- What one step makes of a walk: a place that is not marked is passed over, and one that is marked is reported and recomputed. Assumes nothing.
-use Rattle.std.proofs.Common.{◌≡◌, ℕ, ◌+◌, ◌<◌, ◌≤◌, Bool, true, false, cond, eqb, ◌⊎◌, ◌↔◌, List, [], ◌∷◌, ◌++◌, length, get_or, take, set, sym, refl, ap, ◌∙◌, subst, inl, inr, ⊎_elim, arith}
+use Rattle.std.proofs.Common.{◌≡◌, ℕ, ◌+◌, ◌<◌, ◌≤◌, true, eqb, ◌⊎◌, List, [], ◌∷◌, ◌++◌, get_or, take, sym, refl, ap, ◌∙◌, subst, inl, inr, ⊎_elim, arith}
 use Rattle.std.specs.List.{ContainsAt as Has}
 use Rattle.std.proofs.lemmas.Bool.{cases_eq, eqb-true, eqb-false, eq-eqb, ne_eqb, cond-true, cond-false}
 use Rattle.common.specs.declared.number.PlaceNumber.{PlaceNumber}
 use Rattle.common.specs.declared.number.Rank.{Rank}
-use Rattle.paths.specs.Kind.{Kind, Laws}
+use Rattle.paths.specs.Kind.{Laws}
 use Rattle.paths.specs.Ledger.{Leads, Inside}
-use Rattle.paths.specs.Ledger.{Link as Arrow}
 use Rattle.paths.specs.Equations.{Topological}
 use Rattle.paths.specs.Calls.{put}
 use Rattle.paths.specs.Walk.{State, Put, Stepped, Progress}
@@ -20,7 +19,7 @@ use Rattle.links.proofs.Ties.{leads_of, of_leads}
 use Rattle.order.specs.Tables.{rank_in}
 use Rattle.recompute.specs.declared.climb.Climb.{Climb}
 use Rattle.recompute.specs.Tables.{numbers, value_in, arrows_in, ledger_in, gathered}
-use Rattle.recompute.specs.Pending.{Due, Pending, state_of, Climbed}
+use Rattle.recompute.specs.Pending.{Due, Climbed}
 
 pub put_here : (f : ℕ → ℕ) (p x : ℕ) → put f p x p ≡ x
 put_here f p x = cond-true (eqb p p) x (f p) (eq-eqb p p refl)

@@ -1,17 +1,12 @@
 -- The least that takes in an own label and what the links bring is their join. Assumes nothing.
-use Rattle.std.proofs.Common.{◌≡◌, ℕ, List, sym, refl, ap, ◌∙◌, subst}
-use Rattle.std.specs.List.{ContainsAt as Has}
-use Rattle.paths.specs.Kind.{Kind, Laws, Within}
+use Rattle.std.proofs.Common.{◌≡◌, ℕ, List, subst}
+use Rattle.paths.specs.Kind.{Laws, Within}
 use Rattle.paths.specs.Ledger.{Leads}
-use Rattle.paths.specs.Ledger.{Link as Arrow}
-use Rattle.paths.specs.Equations.{inflow}
 use Rattle.paths.proofs.Within.{within_trans, within_both, within_join, within_left, within_right}
 use Rattle.paths.proofs.Joins.{inflow_ind, inflow_takes}
 use Rattle.kinds.specs.Meanings.{Meaning}
-use Rattle.links.specs.declared.row.Link.{Link}
 use Rattle.links.specs.declared.row.LinkRow.{LinkRow}
 use Rattle.links.specs.Table.{links}
-use Rattle.links.specs.Theory.{arrows}
 use Rattle.links.proofs.Ties.{leads_of, of_leads}
 use Rattle.recompute.specs.Tables.{value_in, arrows_in, gathered}
 use Rattle.recompute.specs.Joined.{brought, Takes}

@@ -1,7 +1,7 @@
 -- What is joined for one place. Assumes nothing.
 use Rattle.std.specs.Prelude.{◌≡◌, ℕ, List}
 use Rattle.std.specs.List.{ContainsAt as Has}
-use Rattle.paths.specs.Kind.{Kind, Within}
+use Rattle.paths.specs.Kind.{Within}
 use Rattle.kinds.specs.Meanings.{Meaning}
 use Rattle.links.specs.declared.row.Link.{Link}
 use Rattle.links.specs.declared.row.LinkRow.{LinkRow}

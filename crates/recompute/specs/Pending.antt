@@ -1,5 +1,5 @@
 -- The marks of a walk: which places are to be recomputed. Assumes nothing.
-use Rattle.std.specs.Prelude.{◌≡◌, ℕ, ◌<◌, ◌≤◌, ◌⊎◌, ◌↔◌, List, length, take, slice_index}
+use Rattle.std.specs.Prelude.{◌≡◌, ℕ, ◌<◌, ◌≤◌, ◌⊎◌, ◌↔◌, List, take, slice_index}
 use Rattle.common.specs.declared.number.PlaceNumber.{PlaceNumber}
 use Rattle.common.specs.declared.number.Rank.{Rank}
 use Rattle.paths.specs.Ledger.{Leads}

@@ -1,8 +1,7 @@
 -- The tables of own labels, labels and links, as the ledger's values and links. Assumes nothing.
-use Rattle.std.specs.Prelude.{◌≡◌, ℕ, ◌≤◌, false, List, map, length, take, slice_index_or}
+use Rattle.std.specs.Prelude.{ℕ, false, List, map, take, slice_index_or}
 use Rattle.common.specs.declared.number.PlaceNumber.{PlaceNumber}
 use Rattle.common.specs.declared.number.Rank.{Rank}
-use Rattle.paths.specs.Kind.{Kind}
 use Rattle.paths.specs.Ledger.{Ledger}
 use Rattle.paths.specs.Ledger.{Link as Arrow}
 use Rattle.paths.specs.Equations.{inflow, Balanced}

@@ -13,7 +13,7 @@ returns-then-same g c =
     let read = value_read m n labels c.index.result c.index-labels-index.result (omega (arith, c.index.ensures, c.requires.place)) c.requires.sizes.1.0 c.index-labels-index.is ∙ ap (value_in m n labels) c.index.ensures in
     let same = c.same.ensures.only c.if-same.true in
     record {
-      put = record { here = sym read ∙ ap m.value (sym c.from-row.ensures) ∙ ap m.value (sym same) ∙ c.gather-label.ensures; other = λ q ne. refl };
+      put = record { here = sym read ∙ ap m.value (sym c.from_row.ensures) ∙ ap m.value (sym same) ∙ c.gather-label.ensures; other = λ q ne. refl };
       changed = λ e. absurd (both_ways false refl e);
       kept = λ e. refl;
     }
@@ -25,14 +25,14 @@ returns g c =
     let n = c.args.n in
     let p = c.args.p.0 in
     let read = value_read m n labels c.index.result c.index-labels-index.result (omega (arith, c.index.ensures, c.requires.place)) c.requires.sizes.1.0 c.index-labels-index.is ∙ ap (value_in m n labels) c.index.ensures in
-    let new : m.value (m.stands c.to-row.result) ≡ gathered m n c.args.own.now labels c.args.rows.now p = ap m.value c.to-row.ensures ∙ c.gather-label.ensures in
-    let put : Put (value_in m n labels) (value_in m n (set labels c.index-2.result c.to-row.result)) p (m.value (m.stands c.to-row.result)) =
-    subst (λ (i : ℕ). Put (value_in m n labels) (value_in m n (set labels i c.to-row.result)) p (m.value (m.stands c.to-row.result))) (sym c.index-2.ensures)
-    (put_set m n labels p c.to-row.result c.requires.place c.requires.sizes.1.0) in
+    let new : m.value (m.stands c.to_row.result) ≡ gathered m n c.args.own.now labels c.args.rows.now p = ap m.value c.to_row.ensures ∙ c.gather-label.ensures in
+    let put : Put (value_in m n labels) (value_in m n (set labels c.index-2.result c.to_row.result)) p (m.value (m.stands c.to_row.result)) =
+    subst (λ (i : ℕ). Put (value_in m n labels) (value_in m n (set labels i c.to_row.result)) p (m.value (m.stands c.to_row.result))) (sym c.index-2.ensures)
+    (put_set m n labels p c.to_row.result c.requires.place c.requires.sizes.1.0) in
     record {
       put = record { here = put.here ∙ new; other = put.other };
       changed = λ t e.
-          let eq : m.value c.gather-label.result ≡ m.value c.from-row.result = c.gather-label.ensures ∙ sym new ∙ sym put.here ∙ e ∙ sym read ∙ ap m.value (sym c.from-row.ensures) in
+          let eq : m.value c.gather-label.result ≡ m.value c.from_row.result = c.gather-label.ensures ∙ sym new ∙ sym put.here ∙ e ∙ sym read ∙ ap m.value (sym c.from_row.ensures) in
           both_ways c.same.result c.if-same.false (c.same.ensures.yes (g.met.K.LabelKind.lawful.one_value _ _ eq));
       kept = λ e. absurd (both_ways true e refl);
     }

@@ -21,11 +21,11 @@ pub loop-at-init : goal.loop-at-init
 loop-at-init g c =
     λ p h. (walk_start Leaving c.args.rows.now c.args.heads.now c.args.tally c.requires.kept p _ c.first-at.result h, (λ q. inl refl), omega arith, inl refl)
 
-pub link-at-l-requires : goal.link-at-l-requires
-link-at-l-requires g c =
+pub link_at-l-requires : goal.link_at-l-requires
+link_at-l-requires g c =
     let rows = c.args.rows.now in
     let heads = c.args.heads.now in
-    let ranks = c.args.rank-of.now in
+    let ranks = c.args.rank_of.now in
     let P : Link g.row.R.Denot → Type 0 = λ x. (get_or c.loop-at.marks x.target.0 0 ≡ 1) × (rank_in ranks x.target.0 ≤ c.loop-at.top.0) in
     let p = c.args.p.0 in
     let inv = c.loop-at.invariant p c.first-at.ensures in
@@ -37,7 +37,7 @@ pub next-at-requires : goal.next-at-requires
 next-at-requires g c =
     let rows = c.args.rows.now in
     let heads = c.args.heads.now in
-    let ranks = c.args.rank-of.now in
+    let ranks = c.args.rank_of.now in
     let P : Link g.row.R.Denot → Type 0 = λ x. (get_or c.loop-at.marks x.target.0 0 ≡ 1) × (rank_in ranks x.target.0 ≤ c.loop-at.top.0) in
     let p = c.args.p.0 in
     let inv = c.loop-at.invariant p c.first-at.ensures in
@@ -49,28 +49,28 @@ pub bounds-marks-index : goal.bounds-marks-index
 bounds-marks-index g c =
     let rows = c.args.rows.now in
     let heads = c.args.heads.now in
-    let ranks = c.args.rank-of.now in
+    let ranks = c.args.rank_of.now in
     let P : Link g.row.R.Denot → Type 0 = λ x. (get_or c.loop-at.marks x.target.0 0 ≡ 1) × (rank_in ranks x.target.0 ≤ c.loop-at.top.0) in
     let p = c.args.p.0 in
     let inv = c.loop-at.invariant p c.first-at.ensures in
     let w = subst (Walked Leaving rows p P) c.in-Some.is inv.0 in
     let h = walk_here Leaving rows heads c.args.tally c.requires.kept p P c.in-Some.s w in
-    let told : c.link-at-l.result ≡ h.0 = (c.link-at-l.ensures h.0 h.2).0 in
+    let told : c.link_at-l.result ≡ h.0 = (c.link_at-l.ensures h.0 h.2).0 in
     let target = ap (λ (l : Link g.row.R.Denot). l.target.0) told in
     let low = (c.requires.inside _ _ _ (leads_of (λ t. t) (links rows) h.0 h.3)).1 in
     omega (arith, low, target, c.requires.sizes.1.1, c.index.ensures, c.loop-at.auto.marks)
 
-pub rank-at-rank-requires : goal.rank-at-rank-requires
-rank-at-rank-requires g c =
+pub rank_at-rank-requires : goal.rank_at-rank-requires
+rank_at-rank-requires g c =
     let rows = c.args.rows.now in
     let heads = c.args.heads.now in
-    let ranks = c.args.rank-of.now in
+    let ranks = c.args.rank_of.now in
     let P : Link g.row.R.Denot → Type 0 = λ x. (get_or c.loop-at.marks x.target.0 0 ≡ 1) × (rank_in ranks x.target.0 ≤ c.loop-at.top.0) in
     let p = c.args.p.0 in
     let inv = c.loop-at.invariant p c.first-at.ensures in
     let w = subst (Walked Leaving rows p P) c.in-Some.is inv.0 in
     let h = walk_here Leaving rows heads c.args.tally c.requires.kept p P c.in-Some.s w in
-    let told : c.link-at-l.result ≡ h.0 = (c.link-at-l.ensures h.0 h.2).0 in
+    let told : c.link_at-l.result ≡ h.0 = (c.link_at-l.ensures h.0 h.2).0 in
     let target = ap (λ (l : Link g.row.R.Denot). l.target.0) told in
     let low = (c.requires.inside _ _ _ (leads_of (λ t. t) (links rows) h.0 h.3)).1 in
     omega (arith, low, target, c.requires.sizes.1.0)
@@ -79,7 +79,7 @@ pub loop-at-smaller : goal.loop-at-smaller
 loop-at-smaller g c =
     let rows = c.args.rows.now in
     let heads = c.args.heads.now in
-    let ranks = c.args.rank-of.now in
+    let ranks = c.args.rank_of.now in
     let P : Link g.row.R.Denot → Type 0 = λ x. (get_or c.loop-at.marks x.target.0 0 ≡ 1) × (rank_in ranks x.target.0 ≤ c.loop-at.top.0) in
     let p = c.args.p.0 in
     let inv = c.loop-at.invariant p c.first-at.ensures in
@@ -92,16 +92,16 @@ pub loop-at-preserved : goal.loop-at-preserved
 loop-at-preserved g c =
     let rows = c.args.rows.now in
     let heads = c.args.heads.now in
-    let ranks = c.args.rank-of.now in
+    let ranks = c.args.rank_of.now in
     let marks = c.loop-at.marks in
     let i = c.index.result in
     let top = c.if-index.top.0 in
     let P : Link g.row.R.Denot → Type 0 = λ x. (get_or marks x.target.0 0 ≡ 1) × (rank_in ranks x.target.0 ≤ c.loop-at.top.0) in
     let Q : Link g.row.R.Denot → Type 0 = λ x. (get_or (set marks i 1) x.target.0 0 ≡ 1) × (rank_in ranks x.target.0 ≤ top) in
-    let l = c.link-at-l.result in
+    let l = c.link_at-l.result in
     let at : i ≡ l.target.0 = c.index.ensures in
-    let rank : c.rank-at-rank.result.0 ≡ rank_in ranks l.target.0 = c.rank-at-rank.ensures in
-    let tops : (c.loop-at.top.0 ≤ top) × (c.rank-at-rank.result.0 ≤ top) × ((top ≡ c.loop-at.top.0) ⊎ (top ≡ c.rank-at-rank.result.0)) =
+    let rank : c.rank_at-rank.result.0 ≡ rank_in ranks l.target.0 = c.rank_at-rank.ensures in
+    let tops : (c.loop-at.top.0 ≤ top) × (c.rank_at-rank.result.0 ≤ top) × ((top ≡ c.loop-at.top.0) ⊎ (top ≡ c.rank_at-rank.result.0)) =
     elim c.if-index.branch [
       | then-index v ↦ let e = ap (λ (r : Rank). r.0) v.top-is in (omega (arith, e, v.if-index.true), omega (arith, e), inr e)
       | else-index v ↦ let e = ap (λ (r : Rank). r.0) v.top-is in (omega (arith, e), omega (arith, e, v.if-index.false), inl e)
@@ -110,7 +110,7 @@ loop-at-preserved g c =
     let inv = c.loop-at.invariant p first in
     let w = subst (Walked Leaving rows p P) c.in-Some.is inv.0 in
     let h = walk_here Leaving rows heads c.args.tally c.requires.kept p P c.in-Some.s w in
-    let told : l ≡ h.0 = (c.link-at-l.ensures h.0 h.2).0 in
+    let told : l ≡ h.0 = (c.link_at-l.ensures h.0 h.2).0 in
     let target = ap (λ (l : Link g.row.R.Denot). l.target.0) told in
     let low = (c.requires.inside _ _ _ (leads_of (λ t. t) (links rows) h.0 h.3)).1 in
     let in' : i < length marks = omega (arith, low, target, at, c.requires.sizes.1.1, c.loop-at.auto.marks) in
@@ -128,9 +128,9 @@ pub returns : goal.returns
 returns g c =
     let rows = c.args.rows.now in
     let heads = c.args.heads.now in
-    let ranks = c.args.rank-of.now in
+    let ranks = c.args.rank_of.now in
     let P : Link g.row.R.Denot → Type 0 = λ x. (get_or c.loop-at.marks x.target.0 0 ≡ 1) × (rank_in ranks x.target.0 ≤ c.loop-at.top.0) in
     let p = c.args.p.0 in
     let inv = c.loop-at.invariant p c.first-at.ensures in
-    let w = subst (Walked Leaving rows p P) c.in-default.is inv.0 in
+    let w = subst (Walked Leaving rows p P) c.in_default.is inv.0 in
     record { all = walk_end Leaving rows heads c.args.tally c.requires.kept p P w; only = inv.1; rises = inv.2; reach = inv.3 }

@@ -1,4 +1,4 @@
-use Rattle.std.proofs.Common.{◌≡◌, ℕ, ◌+◌, ◌-◌, ◌<◌, ◌≤◌, length, get_or, drop, set, sym, refl, ap, ◌∙◌, subst, arith}
+use Rattle.std.proofs.Common.{◌≡◌, ℕ, ◌+◌, ◌-◌, set, sym, refl, ◌∙◌, subst, arith}
 use Rattle.std.proofs.lemmas.List.{get_or-set_other}
 use Rattle.recompute.specs.declared.climb.Climb.{Climb}
 use Rattle.recompute.specs.Pending.{Climbed}
@@ -9,15 +9,15 @@ use Rattle.recompute.proofs.walk.walk.Goals as goal
 
 pub loop-r-init : goal.loop-r-init
 loop-r-init g c =
-    let b = rank_low c.args.n c.args.rank-of.now c.args.place-at.now c.args.rows.now c.requires.sound c.args.e.0 c.requires.place in
-    (omega (arith, b, c.rank-at-first.ensures, c.index-r.ensures), omega (arith, b, c.rank-at-first.ensures), omega arith, omega arith, refl, (λ k h. refl), λ e before h w. w)
+    let b = rank_low c.args.n c.args.rank_of.now c.args.place_at.now c.args.rows.now c.requires.sound c.args.e.0 c.requires.place in
+    (omega (arith, b, c.rank_at-first.ensures, c.index-r.ensures), omega (arith, b, c.rank_at-first.ensures), omega arith, omega arith, refl, (λ k h. refl), λ e before h w. w)
 
 pub loop-r-preserved : goal.loop-r-preserved
 loop-r-preserved g c =
     let m = g.K.LabelKind.means in
     let n = c.args.n in
     let own = c.args.own.now in
-    let ranks = c.args.rank-of.now in
+    let ranks = c.args.rank_of.now in
     let rows = c.args.rows.now in
     let e = c.step-climb.ensures in
     let inv = c.loop-r.invariant in
@@ -39,17 +39,17 @@ returns g c =
     let laws = g.met.K.LabelKind.lawful.laws in
     let n = c.args.n in
     let own = c.args.own.now in
-    let ranks = c.args.rank-of.now in
-    let places = c.args.place-at.now in
+    let ranks = c.args.rank_of.now in
+    let places = c.args.place_at.now in
     let rows = c.args.rows.now in
     let e = c.args.e.0 in
     let before = c.args.labels.now in
     let inv = c.loop-r.invariant in
-    let none : Climb = record { reported = 0; changed = 0; last = c.rank-at-first.result } in
+    let none : Climb = record { reported = 0; changed = 0; last = c.rank_at-first.result } in
     let start : Climbed m n own ranks rows e before c.index-r.result none before (set c.args.marks.now c.index.result 1) c.args.list.now =
     subst (λ (j : ℕ). Climbed m n own ranks rows e before c.index-r.result none before (set c.args.marks.now j 1) c.args.list.now) (sym c.index.ensures)
-    (subst (λ (j : ℕ). Climbed m n own ranks rows e before j none before (set c.args.marks.now e 1) c.args.list.now) (sym (c.index-r.ensures ∙ c.rank-at-first.ensures))
-    (starts m laws n own ranks places rows c.requires.sound e before c.requires.place c.rank-at-first.result c.args.marks.now c.args.list.now c.requires.clean c.requires.sizes.1.1.1.0 c.rank-at-first.ensures)) in
+    (subst (λ (j : ℕ). Climbed m n own ranks rows e before j none before (set c.args.marks.now e 1) c.args.list.now) (sym (c.index-r.ensures ∙ c.rank_at-first.ensures))
+    (starts m laws n own ranks places rows c.requires.sound e before c.requires.place c.rank_at-first.result c.args.marks.now c.args.list.now c.requires.clean c.requires.sizes.1.1.1.0 c.rank_at-first.ensures)) in
     let same : c.loop-r.r + (n - c.loop-r.r) ≡ n = omega (arith, inv.0) in
     record {
       climbed = subst (λ (j : ℕ). Climbed m n own ranks rows e before j c.loop-r.climb c.loop-r.labels c.loop-r.marks c.loop-r.list) same

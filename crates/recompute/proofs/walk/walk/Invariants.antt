@@ -10,8 +10,8 @@ invariant-loop-r g l =
     (drop l.climb.reported l.list ≡ drop l.climb.reported l.initial.list) ×
     Beyond l.n l.initial.marks l.marks ×
     ((e : ℕ) (before : List g.row.K-Row.Denot) → e < l.n →
-    Climbed m l.n l.own l.rank-of l.rows e before l.initial.r l.initial.climb l.initial.labels l.initial.marks l.initial.list →
-    Climbed m l.n l.own l.rank-of l.rows e before l.r l.climb l.labels l.marks l.list)
+    Climbed m l.n l.own l.rank_of l.rows e before l.initial.r l.initial.climb l.initial.labels l.initial.marks l.initial.list →
+    Climbed m l.n l.own l.rank_of l.rows e before l.r l.climb l.labels l.marks l.list)
 
 abbrev pub decreases-loop-r : goal.decreases-loop-r
 decreases-loop-r g l = l.n - l.r

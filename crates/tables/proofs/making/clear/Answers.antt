@@ -14,8 +14,8 @@ returns g c =
     let room = c.requires.room in
     let ranks = c.number.new.ranks in
     let order = c.number.new.order in
-    let links = c.unlink-all.ensures in
-    let blank : means.value (means.stands c.to-row-row.result) ≡ means.kind.empty = ap means.value c.to-row-row.ensures ∙ c.empty.ensures in
+    let links = c.unlink_all.ensures in
+    let blank : means.value (means.stands c.to_row-row.result) ≡ means.kind.empty = ap means.value c.to_row-row.ensures ∙ c.empty.ensures in
     let few : c.args.n < 2 ^ 31 = omega (arith, limits.1) in
     let long : c.args.n ≤ length ranks.items = omega (arith, room.1.0.0, ranks.ok.0, c.number.ensures.sizes.0) in
     let wide : c.args.n ≤ length order.items = omega (arith, room.1.0.1, order.ok.0, c.number.ensures.sizes.1) in
@@ -29,8 +29,8 @@ returns g c =
         ((omega (arith, long, ranks.ok.0), omega (arith, wide, order.ok.0)), (omega (arith, room.1.1.0, links.sizes.1), omega (arith, room.1.1.1, links.sizes.0))),
       );
       present = column_flat (λ b. b) false n c.fill.new.table.items false c.fill.ensures.front refl;
-      own = column_flat (λ r. means.value (means.stands r)) means.kind.empty n c.fill-2.new.table.items c.to-row-row.result c.fill-2.ensures.front blank;
-      labels = column_flat (λ r. means.value (means.stands r)) means.kind.empty n c.fill-3.new.table.items c.to-row-row.result c.fill-3.ensures.front blank;
+      own = column_flat (λ r. means.value (means.stands r)) means.kind.empty n c.fill-2.new.table.items c.to_row-row.result c.fill-2.ensures.front blank;
+      labels = column_flat (λ r. means.value (means.stands r)) means.kind.empty n c.fill-3.new.table.items c.to_row-row.result c.fill-3.ensures.front blank;
       order = first_order n order.items wide c.number.ensures.places;
       ordered = subst (λ (ls : List (Link g.row.K-PassageRow.Denot)). Ordered n ranks.items order.items ls) (sym links.empty)
           ((keeps_order g.row.K-PassageRow.Denot).first n ranks.items order.items few long wide c.number.ensures.ranks c.number.ensures.places);

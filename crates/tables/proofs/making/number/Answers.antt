@@ -6,11 +6,11 @@ use Rattle.tables.proofs.making.number.Goals as goal
 pub returns : goal.returns
 returns c =
     let n = c.args.n in
-    let last = c.first-ranks.new in
-    let long : length last.rank-of ≡ c.args.ranks.now.len = search rules in
+    let last = c.first_ranks.new in
+    let long : length last.rank_of ≡ c.args.ranks.now.len = search rules in
     let wide : length last.place_at ≡ c.args.order.now.len = search rules in
     record {
-      ranks = over c.args.ranks.now last.rank-of (λ rs. (p : ℕ) → p < n → rank_in rs p ≡ p) long c.first-ranks.ensures.ranks;
-      places = over c.args.order.now last.place_at (λ ps. (r : ℕ) → r < n → place_in ps r ≡ r) wide c.first-ranks.ensures.places;
+      ranks = over c.args.ranks.now last.rank_of (λ rs. (p : ℕ) → p < n → rank_in rs p ≡ p) long c.first_ranks.ensures.ranks;
+      places = over c.args.order.now last.place_at (λ ps. (r : ℕ) → r < n → place_in ps r ≡ r) wide c.first_ranks.ensures.places;
       sizes = (refl, refl);
     }
