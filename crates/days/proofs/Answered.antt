@@ -1,5 +1,5 @@
 -- The answer to a line that has the form of a date, and to one that is a number. Assumes nothing.
-use Rattle.std.proofs.Common.{◌≡◌, ℕ, ◌≤◌, Bool, true, false, ◌&&◌, eqb, leb, List, length, is_some, Some, None, Ok, Err, Option, Result, sym, refl, ap, ◌∙◌, subst, inl, inr, ⊎_elim, arith, MatchResult}
+use Rattle.std.proofs.Common.{◌≡◌, ℕ, ◌≤◌, true, false, eqb, leb, List, length, is_some, Some, None, Ok, Err, Option, Result, sym, ◌∙◌, subst, inl, inr, ⊎_elim, arith, MatchResult}
 use Rattle.std.specs.Option as options
 use Rattle.std.proofs.lemmas.Bool.{both_ways, and_parts, eqb-true, leb-true, cond-false}
 use Rattle.common.specs.declared.refusal.Refusal.{Refusal}

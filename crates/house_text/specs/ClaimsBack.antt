@@ -1,5 +1,5 @@
 -- Claims and their passages read back. Assumes nothing.
-use Rattle.std.specs.Prelude.{◌≡◌, ℕ, zero, suc, ◌+◌, ◌*◌, ◌/◌, ◌%◌, ◌^◌, ◌<◌, ◌≤◌, Bool, true, false, cond, ◌⊎◌, List, [], ◌∷◌, ◌++◌, codes, decimal, ◌==◌, refl}
+use Rattle.std.specs.Prelude.{◌≡◌, ℕ, zero, suc, ◌+◌, ◌*◌, ◌/◌, ◌%◌, ◌^◌, ◌<◌, ◌≤◌, true, false, ◌⊎◌, List, ◌∷◌, ◌++◌, codes, decimal, ◌==◌, refl}
 use Rattle.std.proofs.Common.{sym, ap, subst, ◌∙◌, inl, inr, ⊎_elim, append_assoc, mod-eq_of_lt, arith, lit<}
 use Rattle.std.proofs.lemmas.Nat.{mod-pow-add}
 use Rattle.std.specs.Str.{bytes_eq}
@@ -8,7 +8,6 @@ use Rattle.items.specs.Lex.{run, every, word, number, value_of}
 use Rattle.reading.specs.Reading.{ok, bad, Read, item, after, then, give, settled, chosen, pick, spaces, numbers, ends, form_fault}
 use Rattle.reading.specs.Locality.{Unbroken, Local}
 use Rattle.reading.specs.Alikes.{then_local, give_local, pick_local, either_local, ends_same}
-use Rattle.house.specs.declared.claims.Claims.{Claims}
 use Rattle.house.specs.BitSets.{bit}
 use Rattle.house.specs.ClaimSets.{claims_of}
 use Rattle.house.specs.ValuesLemmas.{claims_eq}

@@ -1,5 +1,5 @@
 -- Claims in text, `(claims N ..)` with one number or more, and their passage, `(only N ..)` with any number of them; the numbers rise. Assumes nothing.
-use Rattle.std.specs.Prelude.{ℕ, zero, suc, ◌+◌, ◌-◌, ◌^◌, Bool, cond, List, [], ◌∷◌, ◌++◌, codes, decimal, ◌==◌, nat_le}
+use Rattle.std.specs.Prelude.{ℕ, zero, suc, ◌+◌, ◌^◌, cond, List, [], ◌∷◌, ◌++◌, codes, decimal, ◌==◌, nat_le}
 use Rattle.std.specs.Str.{bytes_eq}
 use Rattle.reading.specs.Reading.{Read, ok, bad, then, give, item, ends, pick, spaces, numbers, Choice, take_it, refuse, form_fault, range_fault}
 use Rattle.house.specs.declared.claims.Claims.{Claims}

@@ -1,25 +1,20 @@
 -- Expiries and their passages read back. Assumes nothing.
-use Rattle.std.specs.Prelude.{◌≡◌, ℕ, ◌+◌, ◌<◌, ◌≤◌, Bool, true, false, cond, List, [], ◌∷◌, ◌++◌, codes, decimal, ◌==◌, refl}
+use Rattle.std.specs.Prelude.{◌≡◌, ℕ, ◌<◌, ◌≤◌, true, false, List, ◌∷◌, ◌++◌, codes, decimal, ◌==◌, refl}
 use Rattle.std.proofs.Common.{sym, ap, ◌∙◌, arith}
-use Rattle.std.proofs.Math.Path.{PathP}
-use mathlib.Core.HLevel.{is_prop→PathP}
-use Rattle.std.proofs.Math.Bridge.{le_prop}
 use Rattle.std.specs.Str.{bytes_eq}
 use Rattle.std.proofs.lemmas.Bool.{eqb-true, eqb-false, both_ways, cond-true, le-leb}
-use Rattle.calendar.specs.declared.day.Day.{Day}
 use Rattle.calendar.specs.Text.{day_text}
-use Rattle.items.specs.Lex.{run, every, word, value_of}
-use Rattle.reading.specs.Reading.{ok, Read, item, after, then, give, settled, chosen, pick, spaces, days, day_choice, counts_in, ranged, form_fault}
+use Rattle.items.specs.Lex.{run, every, word}
+use Rattle.reading.specs.Reading.{ok, item, after, then, give, settled, chosen, pick, spaces, days, day_choice, counts_in, ranged, form_fault}
 use Rattle.reading.specs.Locality.{Unbroken, Local}
 use Rattle.reading.specs.Alikes.{then_local, give_local, pick_local, either_local}
-use Rattle.house.specs.declared.expiry.Expiry.{Expiry}
 use Rattle.house.specs.declared.expiry.ExpiryPassage.{ExpiryPassage}
 use Rattle.house.specs.declared.expiry.ExpiryPassage.TheVariants.{Pass, Cap, Add, Years}
 use Rattle.house.specs.Expiries.{expiry_of, day_of, span_of, years_of}
 use Rattle.house.specs.ValuesLemmas.{expiry_eq, span_eq, years_eq}
 use Rattle.calendar.specs.Values.{day_eq}
 use Rattle.parts.specs.Parts.{Whole}
-use Rattle.house_text.specs.ExpiryText.{until_part, until_body, step_of, cap_body, count_body, step_body, step_word, lets_all, step_first, step_args, step_part}
+use Rattle.house_text.specs.ExpiryText.{until_part, step_of, step_body, step_word, lets_all, step_first, step_args, step_part}
 use Rattle.house_text.specs.Runs.{number_back, unbroken_decimal, date_back, unbroken_date}
 use Rattle.house_text.specs.LockBack.{ranged_local}
 

@@ -1,12 +1,11 @@
 -- Locks and their passages read back. Assumes nothing.
-use Rattle.std.specs.Prelude.{◌≡◌, ℕ, zero, suc, ◌+◌, ◌≤◌, Bool, true, false, List, [], ◌∷◌, ◌++◌, codes, ◌==◌, refl}
+use Rattle.std.specs.Prelude.{◌≡◌, ℕ, zero, suc, ◌+◌, ◌≤◌, true, false, List, ◌∷◌, ◌++◌, codes, ◌==◌, refl}
 use Rattle.std.proofs.Common.{sym, ap, ◌∙◌, arith}
 use Rattle.std.proofs.lemmas.Bool.{eqb-true, both_ways, cond-true, lt-ltb}
 use Rattle.items.specs.Lex.{run, every, word, value_from}
 use Rattle.reading.specs.Reading.{ok, item, then, give, pick, spaces, counts_in, form_fault}
 use Rattle.reading.specs.Locality.{Unbroken, Local}
 use Rattle.reading.specs.Alikes.{then_local, give_local, pick_local}
-use Rattle.house.specs.declared.lock.Lock.{Lock}
 use Rattle.house.specs.declared.lock.LockPassage.{LockPassage}
 use Rattle.house.specs.declared.lock.LockPassage.TheVariants.{Pass, Most}
 use Rattle.house.specs.Locks.{lock_of, ceiling_of, lock_passage_of}

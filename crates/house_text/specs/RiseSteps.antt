@@ -1,10 +1,10 @@
 -- One turn of the rising claims. Assumes nothing.
-use Rattle.std.specs.Prelude.{◌≡◌, ℕ, zero, suc, ◌+◌, ◌*◌, ◌%◌, ◌^◌, ◌<◌, ◌≤◌, Bool, true, false, cond, List, refl}
+use Rattle.std.specs.Prelude.{◌≡◌, ℕ, zero, suc, ◌+◌, ◌*◌, ◌%◌, ◌^◌, ◌<◌, ◌≤◌, true, false, List}
 use Rattle.std.proofs.Common.{sym, ap, subst, ◌∙◌, arith, add-one, one-mul, mod-eq_of_lt}
 use Rattle.std.proofs.Math.Nat.{pow-le-pow_right, two-pow-succ}
 use Rattle.std.proofs.Math.Pow.{pow-lt}
 use Rattle.std.proofs.lemmas.Bool.{cond-true, cond-false}
-use Rattle.reading.specs.Reading.{Out, ok, bad, Flaw, after, then, item, ends, pick, spaces, numbers}
+use Rattle.reading.specs.Reading.{ok, bad, Flaw, after, then, item, ends, pick, spaces, numbers}
 use Rattle.house_text.specs.ClaimsText.{risen, rising}
 
 pub rising_done : (f low set : ℕ) (bs : List ℕ) → 1 ≤ f → ends (item bs) ≡ true → rising f low set bs ≡ ok set bs

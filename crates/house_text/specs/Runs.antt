@@ -1,11 +1,11 @@
 -- Numbers and dates as written are the next items, and have their values. Assumes nothing.
-use Rattle.std.specs.Prelude.{◌≡◌, ℕ, ◌+◌, ◌/◌, ◌%◌, ◌<◌, ◌≤◌, Bool, true, false, cond, ◌&&◌, ◌||◌, List, [], ◌∷◌, ◌++◌, length, Some, None, decimal, Option, ◌==◌, nat_le, slice_index, slice_index_or, refl}
-use Rattle.std.proofs.Common.{sym, ap, subst, ◌∙◌, ⊎_elim, arith, length-append}
+use Rattle.std.specs.Prelude.{◌≡◌, ℕ, ◌<◌, ◌≤◌, true, false, ◌&&◌, ◌||◌, List, [], ◌∷◌, ◌++◌, length, Some, None, decimal, ◌==◌, nat_le, slice_index, slice_index_or, refl}
+use Rattle.std.proofs.Common.{ap, ◌∙◌, ⊎_elim, arith, length-append}
 use Rattle.std.proofs.lemmas.List.{drop_at, get_or_append_left}
 use Rattle.std.proofs.lemmas.Bool.{and_parts, and_from, and_left, and_right, or_left, or_right, cond-true, cond-false, cases_Bool, lt-leb, leb-true}
 use Rattle.calendar.specs.Text.{digit, is_date, day_in, day_text}
 use Rattle.calendar.specs.Texts.{text_tells}
-use Rattle.items.specs.Lex.{Piece, piece, piece_of_run, run, every, in_run, lower, is_word, is_number, number, date, value_of}
+use Rattle.items.specs.Lex.{piece, piece_of_run, run, every, in_run, lower, is_word, is_number, number, date, value_of}
 use Rattle.items.specs.Steps.{piece_rest}
 use Rattle.items.specs.Numbers.{number_tells}
 use Rattle.reading.specs.Reading.{ok, item, item_by}

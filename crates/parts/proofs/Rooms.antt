@@ -1,8 +1,8 @@
 -- A part, and a pair, in a room and in a buffer. Assumes nothing.
-use Rattle.std.proofs.Common.{◌≡◌, ℕ, ◌+◌, ◌<◌, ◌≤◌, Bool, true, false, cond, ◌||◌, List, [], ◌∷◌, ◌++◌, length, Some, None, Option, sym, refl, ap, ◌∙◌, subst, append-nil, arith, length-append}
+use Rattle.std.proofs.Common.{◌≡◌, ℕ, ◌+◌, ◌<◌, ◌≤◌, Bool, true, false, ◌||◌, List, [], ◌∷◌, ◌++◌, length, Some, None, Option, sym, refl, ap, ◌∙◌, subst, append-nil, arith, length-append}
 use Rattle.std.proofs.lemmas.Bool.{cond-true, cond-false}
 use Rattle.parts.specs.Spelling.{text_by, non_empty, as_text, begun}
-use Rattle.parts.specs.Parts.{Part, inside, one_spaced, one_spells}
+use Rattle.parts.specs.Parts.{Part, inside, one_spells}
 use Rattle.parts.specs.Buffers.{Put, Puts, Rooms}
 use Rattle.parts.proofs.Buffers.{put_none, put_then, fits_second}
 use Rattle.parts.specs.PairLaws.{text_more, begun_more}

@@ -1,11 +1,11 @@
 -- What is one part that reads back is a text that reads back. Assumes nothing.
-use Rattle.std.proofs.Common.{◌≡◌, ℕ, Bool, true, false, cond, not, ◌&&◌, ◌||◌, List, [], ◌∷◌, ◌++◌, drop, sym, refl, ap, ◌∙◌, subst, ⊎_elim, append_assoc, arith}
+use Rattle.std.proofs.Common.{◌≡◌, ℕ, Bool, true, false, not, ◌&&◌, ◌||◌, List, [], ◌∷◌, ◌++◌, sym, refl, ap, ◌∙◌, subst, ⊎_elim, append_assoc, arith}
 use Rattle.std.proofs.lemmas.Bool.{or_left, or_right, and_right, both_ways, cond-true, cond-false, cases_Bool}
 use Rattle.items.specs.Lex.{word}
-use Rattle.reading.specs.Reading.{Out, ok, bad, Read, after, then, give, item, settled, chosen, pick, opens, closes, spaces, words, ends, form_fault}
+use Rattle.reading.specs.Reading.{Out, ok, bad, after, then, give, item, settled, chosen, pick, opens, closes, spaces, words, ends, form_fault}
 use Rattle.reading.specs.Locality.{Unbroken, Local, Alike}
 use Rattle.reading.specs.Alikes.{then_local, give_local, pick_local, either_local, ends_same}
-use Rattle.parts.specs.Spelling.{Spelling, Spells, Onward, shut, other, Fronts, as_text, text_by, begun, non_empty, gap, entry, ahead}
+use Rattle.parts.specs.Spelling.{Spells, Onward, shut, other, Fronts, as_text, text_by, begun, non_empty, gap, entry, ahead}
 use Rattle.parts.specs.Parts.{Part, Whole, strange, passes, closing, filling, own_part, inside, one_reading, one_spaced, one_spells}
 use Rattle.parts.specs.PairLaws.{unbroken_more}
 

@@ -1,8 +1,8 @@
 -- The pair of two written kinds that share no word is one. Assumes nothing.
-use Rattle.std.proofs.Common.{◌≡◌, ℕ, Bool, true, false, cond, ◌||◌, List, [], ◌∷◌, ◌++◌, drop, sym, refl, ap, ◌∙◌, subst, append_assoc}
+use Rattle.std.proofs.Common.{◌≡◌, ℕ, Bool, true, false, ◌||◌, List, [], ◌∷◌, ◌++◌, sym, refl, ap, ◌∙◌, subst, append_assoc}
 use Rattle.std.proofs.lemmas.Bool.{or_left, or_right, both_ways}
-use Rattle.reading.specs.Reading.{Out, ok, bad, Read, after, then, give}
-use Rattle.reading.specs.Locality.{Unbroken, Local}
+use Rattle.reading.specs.Reading.{ok, after, give}
+use Rattle.reading.specs.Locality.{Unbroken}
 use Rattle.reading.specs.Alikes.{then_local, give_local}
 use Rattle.kinds.specs.declared.pair.Pair.{Pair}
 use Rattle.parts.specs.Spelling.{Spelling, Spells, Onward, shut, other, Fronts, Apart, Again, as_text, text_by, begun, non_empty, ahead}

@@ -1,6 +1,6 @@
 -- The text of a kind: bracketed parts, each begun by a word, with one space between two. Assumes nothing.
 use Rattle.std.specs.Prelude.{◌≡◌, ℕ, Bool, true, false, cond, ◌||◌, List, [], ◌∷◌, ◌++◌, drop}
-use Rattle.reading.specs.Reading.{Out, ok, bad, Read, then, give, pick, opens, spaces, words}
+use Rattle.reading.specs.Reading.{ok, Read, then, give, pick, opens, spaces, words}
 use Rattle.reading.specs.Locality.{Unbroken, Local}
 
 -- the space before a part, if anything stands before it

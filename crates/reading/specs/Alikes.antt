@@ -1,11 +1,11 @@
 -- The readings are local, one combinator after the other. Assumes nothing.
-use Rattle.std.proofs.Common.{◌≡◌, ℕ, zero, suc, ◌+◌, ◌<◌, ◌≤◌, Bool, true, false, cond, eqb, List, [], ◌∷◌, ◌++◌, length, get_or, drop, sym, refl, ap, ◌∙◌, subst, le_of_suc-le-suc, arith}
-use Rattle.std.proofs.lemmas.Bool.{cond-true, cond-false, both_ways}
+use Rattle.std.proofs.Common.{◌≡◌, ℕ, zero, suc, ◌≤◌, Bool, true, false, cond, List, [], ◌∷◌, ◌++◌, length, drop, sym, refl, ap, ◌∙◌, subst, arith}
+use Rattle.std.proofs.lemmas.Bool.{both_ways}
 use Rattle.std.proofs.lemmas.List.{drop-append-le}
-use Rattle.items.specs.Lex.{Piece, piece, piece_by, piece_of_run, run, in_run, newline, open_bracket, close_bracket, space, word, number, date, no_item}
+use Rattle.items.specs.Lex.{Piece, piece_by, run, in_run, newline, open_bracket, close_bracket, space, word, number, date, no_item}
 use Rattle.reading.specs.Reading.{Out, ok, bad, Flaw, Read, after, then, give, item, item_by, size, Choice, take_it, refuse, chosen, settled, pick, ends}
 use Rattle.reading.specs.Items.{size_fits, run_fits}
-use Rattle.reading.specs.Locality.{Unbroken, Aligned, Alike, Local}
+use Rattle.reading.specs.Locality.{Unbroken, Alike, Local}
 
 unbroken_drop : (n : ℕ) (bs : List ℕ) → Unbroken bs → Unbroken (drop n bs)
 unbroken_drop zero bs c = c

@@ -1,5 +1,5 @@
 -- What the next item of a text is. Assumes nothing.
-use Rattle.std.proofs.Common.{◌≡◌, ℕ, ◌+◌, ◌-◌, ◌<◌, ◌≤◌, Bool, true, false, cond, eqb, leb, List, [], ◌∷◌, length, get_or, drop, sym, refl, ap, ◌∙◌, subst, zero-le, arith, length-drop}
+use Rattle.std.proofs.Common.{◌≡◌, ℕ, ◌+◌, ◌<◌, ◌≤◌, true, cond, eqb, leb, List, [], ◌∷◌, length, get_or, drop, sym, refl, ap, ◌∙◌, subst, zero-le, arith, length-drop}
 use Rattle.std.proofs.lemmas.List.{drop_all, drop-drop}
 use Rattle.std.proofs.lemmas.Bool.{cond_both, and_parts, leb-true, eqb-true}
 use Rattle.calendar.specs.Text.{is_date}
@@ -7,7 +7,7 @@ use Rattle.items.specs.Lex.{Piece, piece, piece_by, piece_of_run, run, in_run, i
 use Rattle.items.specs.Seen.{seen}
 use Rattle.items.specs.declared.item.Item.{Item}
 use Rattle.items.specs.declared.item.Item.TheVariants.{Open, Close, Space, Newline, Word, Number, Date}
-use Rattle.reading.specs.Reading.{Out, ok, bad, item, item_by, size, end_fault, no_item_fault}
+use Rattle.reading.specs.Reading.{ok, bad, item, item_by, size, end_fault, no_item_fault}
 
 pub item_end : (t : List ℕ) (i : ℕ) → length t ≤ i → item (drop i t) ≡ bad end_fault (drop i t)
 unfolding item

@@ -3,7 +3,7 @@
 
 pub mod claims;
 pub mod expiry;
-pub mod house;
+pub mod house_law;
 pub mod kind;
 pub mod law;
 pub mod lock;

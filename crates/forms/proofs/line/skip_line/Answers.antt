@@ -1,4 +1,4 @@
-use Rattle.std.proofs.Common.{◌≡◌, sym, refl, ap, ◌∙◌, subst, arith}
+use Rattle.std.proofs.Common.{sym, ◌∙◌, arith}
 use Rattle.forms.proofs.Turns.{line_ends, line_goes, line_none}
 use Rattle.forms.proofs.line.skip_line.Goals as goal
 

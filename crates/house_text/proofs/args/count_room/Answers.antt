@@ -7,4 +7,4 @@ returns-in-None c = room_cut c.args.word.now (32 ∷ decimal c.args.n) c.args.ro
 
 pub returns-in-Some : goal.returns-in-Some
 returns-in-Some c =
-    room_then c.args.word.now (32 ∷ decimal c.args.n) c.args.room c.in-Some.rest c.spaced-room.result c.in-Some.ensures c.spaced-room.ensures
+    room_then c.args.word.now (32 ∷ decimal c.args.n) c.args.room c.in-Some.rest c.spaced_room.result c.in-Some.ensures c.spaced_room.ensures

@@ -1,4 +1,4 @@
-use Rattle.std.proofs.Common.{◌≡◌, ℕ, ◌+◌, ◌≤◌, List, [], ◌∷◌, length, sym, subst}
+use Rattle.std.proofs.Common.{ℕ, ◌+◌, ◌≤◌, List, [], ◌∷◌, length, sym, subst}
 use Rattle.parts.specs.Buffers.{Put}
 use Rattle.parts.proofs.Buffers.{put_then}
 use Rattle.house_text.proofs.args.put_date.Goals as goal

@@ -1,12 +1,12 @@
-use Rattle.std.proofs.Common.{◌≡◌, sym, refl, ap, ◌∙◌, subst, arith}
+use Rattle.std.proofs.Common.{sym, ◌∙◌, arith}
 use Rattle.items.specs.Numbers.{digit_at, cap_at, pow_more, value_more, value_end}
 use Rattle.items.proofs.run.value.Goals as goal
 
-pub overflow-mul-n : goal.overflow-mul-n
-overflow-mul-n c = record { fits = omega (arith, cap_at c.loop-b.b-index (omega arith)) }
+pub overflow_mul-n : goal.overflow_mul-n
+overflow_mul-n c = record { fits = omega (arith, cap_at c.loop-b.b-index (omega arith)) }
 
-pub overflow-sub-n : goal.overflow-sub-n
-overflow-sub-n c = (digit_at c.args.r.now c.loop-b.b-index c.requires.1 c.loop-b-test.true).0
+pub overflow_sub-n : goal.overflow_sub-n
+overflow_sub-n c = (digit_at c.args.r.now c.loop-b.b-index c.requires.1 c.loop-b-test.true).0
 
 pub loop-b-preserved : goal.loop-b-preserved
 loop-b-preserved c =

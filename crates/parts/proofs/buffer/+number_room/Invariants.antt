@@ -1,4 +1,4 @@
 use Rattle.parts.proofs.buffer.+number_room.Given as goal
 
-abbrev pub decreases-number-room : goal.decreases-number-room
-decreases-number-room l = l.n
+abbrev pub decreases-number_room : goal.decreases-number_room
+decreases-number_room l = l.n

@@ -1,11 +1,11 @@
-use Rattle.std.proofs.Common.{◌≡◌, ℕ, ◌+◌, ◌/◌, ◌%◌, ◌^◌, ◌<◌, ◌≤◌, List, [], ◌∷◌, ◌++◌, length, set, decimal, sym, refl, ap, ◌∙◌, subst, arith, length-append}
+use Rattle.std.proofs.Common.{ℕ, ◌+◌, ◌/◌, ◌%◌, ◌≤◌, List, [], ◌∷◌, ◌++◌, length, set, decimal, sym, ap, ◌∙◌, subst, arith, length-append}
 use Rattle.parts.specs.Buffers.{Put}
 use Rattle.parts.proofs.Buffers.{put_none, put_then, put_one, fits_second, Front, front_none, front_some}
 use Rattle.parts.proofs.buffer.+put_number.Goals as goal
 use Rattle.parts.proofs.buffer.+put_number.Goals.{then-n-ge10, else-n-ge10, Joined-n-ge10}
 
-pub put-number-last-requires : goal.put-number-last-requires
-put-number-last-requires t c =
+pub put_number-last-requires : goal.put_number-last-requires
+put_number-last-requires t c =
     let f = front_some c.args.n c.if-n-ge10.true (omega arith) in
     (omega arith, omega (arith, ap length f.whole, length-append (decimal (c.args.n / 10)) ((48 + c.args.n % 10) ∷ [])))
 
@@ -16,7 +16,7 @@ before t c =
       | then-n-ge10 w ↦ (
         decimal (c.args.n / 10),
         front_some c.args.n w.if-n-ge10.true (omega arith),
-        (w.last-is ∙ w.put-number-last.ensures.0, w.out-is ∙ w.put-number-last.ensures.1),
+        (w.last-is ∙ w.put_number-last.ensures.0, w.out-is ∙ w.put_number-last.ensures.1),
       )
       | else-n-ge10 w ↦ (
         [],
@@ -35,8 +35,8 @@ last_fits t c = fits_second (before t c).0 ((48 + c.args.n % 10) ∷ []) c.args.
 pub bounds-out-last : goal.bounds-out-last
 bounds-out-last t c = omega (arith, last_fits t (goal.at.bounds-out-last t c).Joined-n-ge10)
 
-pub overflow-add-result : goal.overflow-add-result
-overflow-add-result t c = record { fits = omega (arith, last_fits t (goal.at.overflow-add-result t c).Joined-n-ge10) }
+pub overflow_add-result : goal.overflow_add-result
+overflow_add-result t c = record { fits = omega (arith, last_fits t (goal.at.overflow_add-result t c).Joined-n-ge10) }
 
 pub returns : goal.returns
 returns t c =

@@ -8,4 +8,4 @@ returns-in-None c = room_cut (codes "only") (claims_from c.args.value.bits 0 64)
 
 pub returns-in-Some : goal.returns-in-Some
 returns-in-Some c =
-    room_then (codes "only") (claims_from c.args.value.bits 0 64) c.args.room c.in-Some.rest c.claims-room.result c.in-Some.ensures c.claims-room.ensures
+    room_then (codes "only") (claims_from c.args.value.bits 0 64) c.args.room c.in-Some.rest c.claims_room.result c.in-Some.ensures c.claims_room.ensures

@@ -6,5 +6,5 @@ use Rattle.house_text.proofs.expiry.UntilTextPartText.room_inside.Goals as goal
 
 pub returns : goal.returns
 returns c =
-    let long : 16 ≡ length (codes "until" ++ (32 ∷ day_text c.args.-value.number)) = omega (arith, length_date c.args.-value.number) in
-    subst (λ (k : ℕ). Left c.args.room k c.room-less.result) long c.room-less.ensures
+    let long : 16 ≡ length (codes "until" ++ (32 ∷ day_text c.args._value.number)) = omega (arith, length_date c.args._value.number) in
+    subst (λ (k : ℕ). Left c.args.room k c.room_less.result) long c.room_less.ensures

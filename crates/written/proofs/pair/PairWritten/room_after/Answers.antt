@@ -8,4 +8,4 @@ returns-in-None g c =
 pub returns-in-Some : goal.returns-in-Some
 returns-in-Some g c =
     room_pair (g.A.Written.spelling.spaced c.args.self.first) (g.B.Written.spelling.spaced c.args.self.second) c.args.started c.in-Some.s c.args.room c.in-Some.rest
-    c.room-after-in-Some.result c.in-Some.ensures.0 c.in-Some.ensures.1 c.room-after-in-Some.ensures
+    c.room_after-in-Some.result c.in-Some.ensures.0 c.in-Some.ensures.1 c.room_after-in-Some.ensures

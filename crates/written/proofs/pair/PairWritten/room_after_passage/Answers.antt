@@ -8,4 +8,4 @@ returns-in-None g c =
 pub returns-in-Some : goal.returns-in-Some
 returns-in-Some g c =
     room_pair (g.A.Written.stepping.spaced c.args.passage.first) (g.B.Written.stepping.spaced c.args.passage.second) c.args.started c.in-Some.s c.args.room c.in-Some.rest
-    c.room-after-passage-in-Some.result c.in-Some.ensures.0 c.in-Some.ensures.1 c.room-after-passage-in-Some.ensures
+    c.room_after_passage-in-Some.result c.in-Some.ensures.0 c.in-Some.ensures.1 c.room_after_passage-in-Some.ensures
