@@ -1,5 +1,5 @@
 -- An edit of the tables is an edit of what they say. Assumes nothing.
-use Rattle.std.proofs.Common.{◌≡◌, ℕ, ◌<◌, ◌≤◌, Bool, true, false, cond, eqb, ◌⊎◌, List, [], map, length, get_or, take, filter, sym, refl, ap, ◌∙◌, subst, inl, inr, ⊎_elim, arith}
+use Rattle.std.proofs.Common.{◌≡◌, ℕ, ◌<◌, ◌≤◌, eqb, ◌⊎◌, List, [], map, length, get_or, take, filter, sym, ap, ◌∙◌, subst, inl, inr, ⊎_elim, arith}
 use lib.ListN.{length-map}
 use Rattle.std.proofs.ByRecursion.{has_get_or}
 use Rattle.std.proofs.lemmas.List.{length-take-le}
@@ -9,8 +9,8 @@ use Rattle.common.specs.declared.number.Rank.{Rank}
 use Rattle.paths.specs.Kind.{Kind, Laws}
 use Rattle.paths.specs.Ledger.{Link, Ledger, Leads, Inside, AreJoins}
 use Rattle.paths.specs.Edits.{Edited}
-use Rattle.paths.specs.Order.{Ranked, rank_in}
-use Rattle.paths.specs.Reports.{Reported, Rising, IsReport}
+use Rattle.paths.specs.Order.{rank_in}
+use Rattle.paths.specs.Reports.{Reported}
 use Rattle.paths.specs.Walk.{Put, Recomputed}
 use Rattle.paths.specs.Calls.{put}
 use Rattle.paths.proofs.Calls.{put_other, put_there}
@@ -26,8 +26,8 @@ use Rattle.law.specs.State.{Same, IsLinked}
 use Rattle.law.proofs.Orders.{whole_from}
 use Rattle.order.specs.Tables.{order_in, Sound}
 use Rattle.order.specs.Tables as table
-use Rattle.recompute.specs.Tables.{numbers, value_in, arrows_in, ledger_in, Held, Recomputes}
-use Rattle.recompute.proofs.Grounds.{rising, within}
+use Rattle.recompute.specs.Tables.{numbers, value_in, arrows_in, Held, Recomputes}
+use Rattle.recompute.proofs.Grounds.{within}
 use Rattle.store.specs.View.{links_of}
 
 -- a store with places has the links of its table

@@ -1,9 +1,8 @@
-use Rattle.std.proofs.Common.{◌≡◌, ℕ, ◌<◌, ◌≤◌, Bool, true, ◌↔◌, List, length, take, sym, refl, ap, ◌∙◌, subst, inl, inr, arith}
+use Rattle.std.proofs.Common.{◌≡◌, ◌<◌, ◌≤◌, List, length, sym, refl, ap, subst, inl, inr, arith}
 use Rattle.std.proofs.lemmas.Result.{MatchResult-weaker}
-use Rattle.paths.specs.Ledger.{Link, Ledger, Leads, Path}
+use Rattle.paths.specs.Ledger.{Link, Ledger, Leads}
 use Rattle.paths.specs.Calls.{next}
 use Rattle.paths.specs.Calls as ledger
-use Rattle.paths.specs.Order.{rank_in, moved}
 use Rattle.paths.proofs.Calls.{link_edits}
 use Rattle.links.specs.Table.{links, link}
 use Rattle.links.specs.Table as slots
@@ -15,7 +14,7 @@ use Rattle.order.specs.Tables.{order_in}
 use Rattle.order.specs.Tables as table
 use Rattle.order.proofs.Props.{opened}
 use Rattle.order.proofs.Passages.{same_paths}
-use Rattle.recompute.specs.Tables.{numbers, value_in, arrows_in}
+use Rattle.recompute.specs.Tables.{value_in, arrows_in}
 use Rattle.recompute.proofs.Grounds.{rising}
 use Rattle.tables.specs.Columns.{present_in, values_in}
 use Rattle.store.specs.View.{links_of, permit_in, view}

@@ -1,4 +1,4 @@
-use Rattle.std.proofs.Common.{◌≡◌, ℕ, ◌<◌, ◌≤◌, List, length, take, sym, refl, ap, ◌∙◌, subst, inl, inr, arith}
+use Rattle.std.proofs.Common.{◌≡◌, ℕ, ◌<◌, List, take, sym, refl, ap, subst, inl, inr}
 use Rattle.paths.specs.Ledger.{Link, Ledger, Leads}
 use Rattle.paths.specs.Calls.{next}
 use Rattle.paths.specs.Calls as ledger
