@@ -1,4 +1,5 @@
 pub mod Held
 pub mod View
 pub mod Making
+pub mod Permits
 pub mod Calls

@@ -2,6 +2,8 @@
 #![tactic(auto)]
 
 pub mod grant;
+pub mod permit;
 pub mod store;
 
+pub use permit::Permit;
 pub use store::Store;

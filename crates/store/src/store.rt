@@ -13,6 +13,7 @@ use links::Tally;
 use tables::Tables;
 
 mod calls;
+mod permits;
 
 // A store of n places for at most m links. Over refused tables it has no places: n and m are 0.
 #[derive(Drop)]

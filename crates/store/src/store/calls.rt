@@ -57,7 +57,7 @@ impl<K: LabelKind> Store<'_, K> {
         }
     }
 
-    fn permit_is_out(&self) -> bool
+    pub(crate) fn permit_is_out(&self) -> bool
         ensures { result ≡ is_out (permit_in self.now.permit) }
     {
         match self.permit {
@@ -66,7 +66,7 @@ impl<K: LabelKind> Store<'_, K> {
         }
     }
 
-    fn is_present(&self, p: PlaceNumber) -> bool
+    pub(crate) fn is_present(&self, p: PlaceNumber) -> bool
         requires { p.0 < self.now.n }
         ensures { result ≡ present_in self.now.n self.now.tables.now.present.items p.0 }
     {

@@ -55,9 +55,7 @@ impl Permit {
     }
 
     // Lets it end.
-    pub(crate) fn spend(self)
-        ensures { true ≡ true }
-    {
+    pub(crate) fn spend(self) {
         let mut permit = self;
         permit.spent = true;
     }

@@ -1,0 +1,56 @@
+use Rattle.std.proofs.Common.{◌≡◌, ℕ, ◌<◌, false, Some, None, Option, sym, refl, ap, subst, arith}
+use Rattle.std.proofs.lemmas.Bool.{both_ways}
+use Rattle.paths.specs.Ledger.{Ledger}
+use Rattle.paths.specs.Calls.{next}
+use Rattle.paths.specs.Calls as ledger
+use Rattle.links.specs.Table.{links}
+use Rattle.links.proofs.Ties.{follows}
+use Rattle.law.specs.Calls.{Permit, none, out, is_out}
+use Rattle.law.specs.State.{Same}
+use Rattle.order.specs.Tables.{order_in}
+use Rattle.recompute.specs.Tables.{value_in, arrows_in}
+use Rattle.tables.specs.Columns.{present_in}
+use Rattle.discarding.specs.Discarded.{Discarded}
+use Rattle.store.specs.declared.grant.Grant.{Grant}
+use Rattle.store.specs.Held.{HoldsPlace}
+use Rattle.store.specs.View.{permit_in, links_of, view}
+use Rattle.store.proofs.Edits.{links_are, same_by, alike_eq}
+use Rattle.store.proofs.store.Store.discard.Goals as goal
+
+abbrev place_of : Permit → ℕ
+place_of none = 0
+place_of (out p d) = p
+
+-- a permit that is out is for a place of the store
+held_some : (o : Option Grant) (n p d : ℕ) → HoldsPlace o n → permit_in o ≡ out p d → p < n
+held_some None n p d h e = absurd (both_ways false refl (ap is_out e))
+held_some (Some g) n p d h e = let l = h g refl in let x : g.place.0 ≡ p = ap place_of e in omega (arith, l, x)
+
+pub returns-clause-told : goal.returns-clause-told
+returns-clause-told g c =
+    let m = g.K.LabelKind.means in
+    let V = m.Value in
+    let P = g.row.K-Passage.Denot in
+    let k = m.kind in
+    let self = c.args.self.now in
+    let n = self.n in
+    let old = self.tables.now in
+    let new = c.discard_in.new.t in
+    let p = c.args.permit.place.0 in
+    let ours : permit_in self.permit ≡ out p c.args.permit.day.number = c.is_out.ensures.yes c.if-not-is_out.false in
+    let some : 0 < n = let l = held_some self.permit n p c.args.permit.day.number self.held ours in omega (arith, l) in
+    let e = subst (λ (q : ℕ). Discarded m n self.m q old new c.discard_in.new.tally) (ap (λ x. x.0) c.place-place.ensures) c.discard_in.ensures in
+    let are : links_of m n old.links.items ≡ arrows_in m old.links.items = links_are m n old.links.items some in
+    let are' : links_of m n new.links.items ≡ arrows_in m new.links.items = links_are m n new.links.items some in
+    let before : Ledger V P = (view m self).ledger in
+    let after : Ledger V P = record { present = present_in n new.present.items; own = value_in m n new.own.items; links = links_of m n new.links.items } in
+    let cut : Ledger V P = next k before (ledger.discard p) in
+    let alike = (follows g.row.K-PassageRow.Denot V P).shuts k before m.leads (links old.links.items) (links new.links.items) p e.shut (alike_eq (arrows_in m old.links.items) before.links (sym are)) in
+    let same : Same after cut = same_by cut after (arrows_in m new.links.items) e.present e.own are' alike in
+    record {
+      passed = (λ other. other ours, tt);
+      turns = record {
+        does = record { places = refl; limit = refl; ledger = same; order = ap (λ v. order_in n v.items) e.order; permit = refl };
+        labels = e.labels;
+      };
+    }
