@@ -1,9 +1,9 @@
 -- An edit of the tables is an edit of what they say. Assumes nothing.
-use Rattle.std.proofs.Common.{◌≡◌, ℕ, ◌<◌, ◌≤◌, eqb, ◌⊎◌, List, [], map, length, get_or, take, filter, sym, ap, ◌∙◌, subst, inl, inr, ⊎_elim, arith}
+use Rattle.std.proofs.Common.{◌≡◌, ℕ, ◌<◌, ◌≤◌, ◌⊎◌, List, map, length, get_or, take, filter, sym, ap, ◌∙◌, subst, inl, inr, ⊎_elim, arith}
 use lib.ListN.{length-map}
 use Rattle.std.proofs.ByRecursion.{has_get_or}
 use Rattle.std.proofs.lemmas.List.{length-take-le}
-use Rattle.std.proofs.lemmas.Bool.{cond-false, ne_eqb, cases_eq, cases_lt}
+use Rattle.std.proofs.lemmas.Bool.{cases_eq, cases_lt}
 use Rattle.common.specs.declared.number.PlaceNumber.{PlaceNumber}
 use Rattle.common.specs.declared.number.Rank.{Rank}
 use Rattle.paths.specs.Kind.{Kind, Laws}
@@ -19,20 +19,15 @@ use Rattle.paths.proofs.Permutes.{ranked_one}
 use Rattle.kinds.specs.Meanings.{Meaning}
 use Rattle.links.specs.declared.row.LinkRow.{LinkRow}
 use Rattle.links.specs.Table.{links}
-use Rattle.links.specs.Table as slots
-use Rattle.links.specs.Theory.{Alike, arrow}
-use Rattle.links.proofs.Ties.{of_leads, leads_of}
-use Rattle.law.specs.State.{Same, IsLinked}
+use Rattle.links.specs.Theory.{Alike}
+use Rattle.law.specs.State.{Same}
 use Rattle.law.proofs.Orders.{whole_from}
 use Rattle.order.specs.Tables.{order_in, Sound}
 use Rattle.order.specs.Tables as table
 use Rattle.recompute.specs.Tables.{numbers, value_in, arrows_in, Held, Recomputes}
 use Rattle.recompute.proofs.Grounds.{within}
-use Rattle.store.specs.View.{links_of}
-
--- a store with places has the links of its table
-pub links_are : {K P R S : Type 0} (m : Meaning K P R S) (n : ℕ) (rows : List (LinkRow S)) → 0 < n → links_of m n rows ≡ arrows_in m rows
-links_are m n rows l = cond-false (eqb n 0) [] (arrows_in m rows) (ne_eqb n 0 (λ e. omega arith))
+-- the links that a store shows are those of its tables
+pub use Rattle.tables.proofs.Views.{links_are, links_number, is_linked, linked_by}
 
 -- the same report by other ranks that agree on the first n places
 other_ranks : {V P : Type 0} (k : Kind V P) (h : Ledger V P) (n e : ℕ) → Inside n h.links → e < n → (a b : ℕ → ℕ) → ((p : ℕ) → p < n → a p ≡ b p) →
@@ -101,20 +96,6 @@ alike_eq {P} xs ys e =
       number = λ test. ap (λ (zs : List (Link P)). length (filter test zs)) e;
     }
 
--- a link of the ledger is one of the table
-pub is_linked : {K P R S : Type 0} (m : Meaning K P R S) (n : ℕ) (rows : List (LinkRow S)) → 0 < n → (u v : ℕ) → IsLinked (links_of m n rows) u v → slots.Leads (links rows) u v
-is_linked m n rows some u v (t, h) =
-    let o = of_leads m.leads (links rows) u v t (subst (λ (xs : List (Link _)). Leads xs u v t) (links_are m n rows some) h) in
-    (o.0, o.1, o.2, o.3)
-
-pub linked_by : {K P R S : Type 0} (m : Meaning K P R S) (n : ℕ) (rows : List (LinkRow S)) → 0 < n → (u v : ℕ) → slots.Leads (links rows) u v → IsLinked (links_of m n rows) u v
-linked_by {P = P} m n rows some u v (l, h, s, t) = (
-  m.leads l.passage,
-  subst (λ (xs : List (Link P)). Leads xs u v (m.leads l.passage)) (sym (links_are m n rows some))
-      (subst (λ (a : ℕ). Leads (arrows_in m rows) a v (m.leads l.passage)) s
-      (subst (λ (b : ℕ). Leads (arrows_in m rows) l.source.0 b (m.leads l.passage)) t (leads_of m.leads (links rows) l h))),
-)
-
 -- a store that has one of two places has some
 pub elim_some : (n u : ℕ) {v : ℕ} → ((n ≤ u) ⊎ (n ≤ v) → ⊥) → 0 < n
 elim_some n u h = ⊎_elim (λ l. omega arith) (λ l. absurd (h (inl l))) (cases_lt u n)
@@ -127,7 +108,3 @@ elim_high n v u h = ⊎_elim (λ l. l) (λ l. absurd (h (inl l))) (cases_lt u n)
 
 pub elim_room : (n room : ℕ) → (room < n → ⊥) → n ≤ room
 elim_room n room h = ⊎_elim (λ l. absurd (h l)) (λ l. l) (cases_lt room n)
-
--- as many links as the table has
-pub links_number : {K P R S : Type 0} (m : Meaning K P R S) (n : ℕ) (rows : List (LinkRow S)) → 0 < n → length (links_of m n rows) ≡ length (links rows)
-links_number m n rows some = ap length (links_are m n rows some) ∙ length-map (links rows) (arrow m.leads)
