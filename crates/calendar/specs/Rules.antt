@@ -1,22 +1,21 @@
 -- The rules of the fixed tables: each is one test that antt computes over the whole table, carried to each entry by a lemma. Assumes nothing.
-use Rattle.std.proofs.Common.{◌≡◌, ℕ, zero, suc, ◌+◌, ◌-◌, ◌<◌, ◌≤◌, Bool, true, false, cond, T, eqb, leb, List, [], ◌∷◌, length, get_or, drop, sym, refl, ap, ◌∙◌, subst, ⊎_elim, le_of_suc-le-suc, not-suc-le-zero, add-zero, add-suc, suc-add, zero-add, add-one, arith, eqb→eq, leb→le}
-use Rattle.std.proofs.lemmas.Bool.{cases_lt}
+use Rattle.std.proofs.Common.{◌≡◌, ℕ, zero, suc, ◌+◌, ◌-◌, ◌<◌, ◌≤◌, Bool, true, false, cond, T, eqb, leb, List, [], ◌∷◌, length, get_or, drop, sym, refl, ap, ◌∙◌, subst, le_of_suc-le-suc, not-suc-le-zero, add-zero, add-suc, suc-add, zero-add, add-one, arith, eqb→eq, leb→le}
 use Rattle.calendar.specs.Calendar.{leap, year_length, before_year, before_month, month_length, day_number, Exists}
 
-abbrev both : Bool → Bool → Bool
+abbrev pub both : Bool → Bool → Bool
 both true b = b
 both false b = false
 
-both_left : (a b : Bool) → T (both a b) → T a
+pub both_left : (a b : Bool) → T (both a b) → T a
 both_left true b t = tt
 both_left false b t = t
 
-both_right : (a b : Bool) → T (both a b) → T b
+pub both_right : (a b : Bool) → T (both a b) → T b
 both_right true b t = t
 both_right false b t = absurd t
 
 -- the year table
-abbrev later : List ℕ
+abbrev pub later : List ℕ
 later = 365 ∷ 730 ∷ 1096 ∷ 1461 ∷ 1826 ∷ 2191 ∷ 2557 ∷ 2922 ∷ 3287 ∷ 3652 ∷ 4018 ∷ 4383 ∷ 4748 ∷ 5113 ∷ 5479 ∷ 5844 ∷ 6209 ∷ 6574 ∷ 6940 ∷ 7305 ∷ 7670 ∷ 8035 ∷ 8401 ∷ 8766 ∷ 9131 ∷ 9496 ∷ 9862 ∷ 10227 ∷ 10592 ∷ 10957 ∷ 11323 ∷ 11688 ∷ 12053 ∷ 12418 ∷ 12784 ∷ 13149 ∷ 13514 ∷ 13879 ∷ 14245 ∷ 14610 ∷ 14975 ∷ 15340 ∷ 15706 ∷ 16071 ∷ 16436 ∷ 16801 ∷ 17167 ∷ 17532 ∷ 17897 ∷ 18262 ∷ 18628 ∷ 18993 ∷ 19358 ∷ 19723 ∷ 20089 ∷ 20454 ∷ 20819 ∷ 21184 ∷ 21550 ∷ 21915 ∷ 22280 ∷ 22645 ∷ 23011 ∷ 23376 ∷ 23741 ∷ 24106 ∷ 24472 ∷ 24837 ∷ 25202 ∷ 25567 ∷ 25933 ∷ 26298 ∷ 26663 ∷ 27028 ∷ 27394 ∷ 27759 ∷ 28124 ∷ 28489 ∷ 28855 ∷ 29220 ∷ 29585 ∷ 29950 ∷ 30316 ∷ 30681 ∷ 31046 ∷ 31411 ∷ 31777 ∷ 32142 ∷ 32507 ∷ 32872 ∷ 33238 ∷ 33603 ∷ 33968 ∷ 34333 ∷ 34699 ∷ 35064 ∷ 35429 ∷ 35794 ∷ 36160 ∷ 36525 ∷ 36890 ∷ 37255 ∷ 37621 ∷ 37986 ∷ 38351 ∷ 38716 ∷ 39082 ∷ 39447 ∷ 39812 ∷ 40177 ∷ 40543 ∷ 40908 ∷ 41273 ∷ 41638 ∷ 42004 ∷ 42369 ∷ 42734 ∷ 43099 ∷ 43465 ∷ 43830 ∷ 44195 ∷ 44560 ∷ 44926 ∷ 45291 ∷ 45656 ∷ 46021 ∷ 46387 ∷ 46752 ∷ 47117 ∷ 47482 ∷ 47847 ∷ 48212 ∷ 48577 ∷ 48942 ∷ 49308 ∷ 49673 ∷ 50038 ∷ 50403 ∷ 50769 ∷ 51134 ∷ 51499 ∷ 51864 ∷ 52230 ∷ 52595 ∷ 52960 ∷ 53325 ∷ 53691 ∷ 54056 ∷ 54421 ∷ 54786 ∷ 55152 ∷ 55517 ∷ 55882 ∷ 56247 ∷ 56613 ∷ 56978 ∷ 57343 ∷ 57708 ∷ 58074 ∷ 58439 ∷ 58804 ∷ 59169 ∷ 59535 ∷ 59900 ∷ 60265 ∷ 60630 ∷ 60996 ∷ 61361 ∷ 61726 ∷ 62091 ∷ 62457 ∷ 62822 ∷ 63187 ∷ 63552 ∷ 63918 ∷ 64283 ∷ 64648 ∷ 65013 ∷ 65379 ∷ 65744 ∷ 66109 ∷ 66474 ∷ 66840 ∷ 67205 ∷ 67570 ∷ 67935 ∷ 68301 ∷ 68666 ∷ 69031 ∷ 69396 ∷ 69762 ∷ 70127 ∷ 70492 ∷ 70857 ∷ 71223 ∷ 71588 ∷ 71953 ∷ 72318 ∷ 72684 ∷ 73049 ∷ 73414 ∷ 73779 ∷ 74145 ∷ 74510 ∷ 74875 ∷ 75240 ∷ 75606 ∷ 75971 ∷ 76336 ∷ 76701 ∷ 77067 ∷ 77432 ∷ 77797 ∷ 78162 ∷ 78528 ∷ 78893 ∷ 79258 ∷ 79623 ∷ 79989 ∷ 80354 ∷ 80719 ∷ 81084 ∷ 81450 ∷ 81815 ∷ 82180 ∷ 82545 ∷ 82911 ∷ 83276 ∷ 83641 ∷ 84006 ∷ []
 
 abbrev pub years : List ℕ
@@ -75,6 +74,14 @@ long_right m a b =
     subst (λ n. get_or long (m - 1) 0 ≡ before_month true n) e
     (eqb→eq _ _ (from (λ n x. eqb x (before_month true n)) long 1 (tt {0}) (m - 1) (omega arith)))
 
+-- the days before each month, in a leap year or in another
+abbrev pub starts : Bool → List ℕ
+starts l = cond l long plain
+
+pub starts_right : (l : Bool) (m : ℕ) → 1 ≤ m → m ≤ 12 → get_or (starts l) (m - 1) 0 ≡ before_month l m
+starts_right true m a b = long_right m a b
+starts_right false m a b = plain_right m a b
+
 -- the next year begins at most at the table's end
 pub year_top : (k : ℕ) → k < 231 → before_year k ≤ 84006
 year_top k h =
@@ -126,12 +133,6 @@ in_range k m l h e a b =
     let i : k + 1 < 231 = omega arith in
     let f : cond l 366 365 ≡ year_length (1970 + k) = ap (λ (b : Bool). cond b 366 365) e in
     omega (arith, year_top (k + 1) i, year_more k, month_top l m a b)
-
--- the last entry is past every day
-pub not_last : (j n : ℕ) → j < 231 → before_year j ≤ n → n ≤ 84005 → j < 230
-unfolding before_year
-not_last j n h a b =
-    ⊎_elim (λ q. q) (λ q. let e : j ≡ 230 = omega arith in absurd (let z : before_year j ≡ 84006 = ap before_year e in omega arith)) (cases_lt j 230)
 
 pub year_end : (l : Bool) → before_month l 12 + 31 ≡ cond l 366 365
 unfolding before_month

@@ -5,7 +5,7 @@ ghost use Rattle.common.specs.declared.refusal.Refusal.{Refusal};
 use common::Refusal;
 
 // A year of four digits, a month and a day of two. There need not be such a date.
-#[derive(Clone, Copy, PartialEq, Eq, Debug)]
+#[derive(Clone, Copy, PartialEq, Eq, PartialOrd, Ord, Debug, Hash)]
 pub struct Date {
     pub year: u32,
     pub month: u32,
@@ -16,7 +16,7 @@ pub struct Date {
 }
 
 impl Date {
-    // The date of these numbers, if they can be written.
+    // The date of these numbers, if they can be written. Not a `TryFrom` of a triple: a caller names no parts there.
     pub fn new(year: u32, month: u32, day: u32) -> Result<Date, Refusal>
         ensures { MatchResult result (λ x. (x.year ≡ year) × (x.month ≡ month) × (x.day ≡ day)) (λ e. (e ≡ Refusal.OutOfRange) × ((year < 10000) × (month < 100) × (day < 100) → ⊥)) }
     {

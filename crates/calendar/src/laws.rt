@@ -31,11 +31,9 @@ pub fn text_and_back(day: Day) -> Result<Day, Refusal>
     Day::read(&text)
 }
 
-pub fn calendar_stands() -> u8
+pub fn calendar_stands()
     ensures days { DaysAreDates }
     ensures test { TestTells }
     ensures text { TextTells }
     ensures examples { Examples }
-{
-    0
-}
+{}

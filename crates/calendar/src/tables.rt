@@ -1,8 +1,11 @@
 // The fixed tables, and what they say of years and months.
 ghost use Rattle.std.specs.Prelude.{◌≡◌, ◌+◌, ◌<◌, ◌≤◌};
 ghost use Rattle.calendar.specs.Calendar.{leap, before_year, before_month, month_length};
+ghost use Rattle.calendar.specs.Rules.{starts};
 
-// The day numbers of 1 January 1970 to 1 January 2200.
+use super::day::Day;
+
+// The day numbers of 1 January 1970 to 1 January 2200: a plain table, for a Vec would need a heap.
 const YEARS: [u32; 231] = [
     0, 365, 730, 1096, 1461, 1826, 2191, 2557, 2922, 3287, 3652, 4018, 4383, 4748, 5113, 5479,
     5844, 6209, 6574, 6940, 7305, 7670, 8035, 8401, 8766, 9131, 9496, 9862, 10227, 10592, 10957,
@@ -29,38 +32,93 @@ const PLAIN: [u32; 12] = [0, 31, 59, 90, 120, 151, 181, 212, 243, 273, 304, 334]
 
 const LEAP: [u32; 12] = [0, 31, 60, 91, 121, 152, 182, 213, 244, 274, 305, 335];
 
+// The days before each month of a leap year, or of a plain one.
+fn month_starts(long: bool) -> [u32; 12]
+    ensures { result ≡ starts long }
+{
+    if long { LEAP } else { PLAIN }
+}
+
 // The day number of 1 January of the year 1970 + k.
-pub(crate) fn year_start(k: usize) -> u32
+fn year_start(k: usize) -> u32
     requires { k < 231 }
     ensures { result ≡ before_year k }
 {
     YEARS[k]
 }
 
-// The days before the month m of a leap year, or of a plain one.
-pub(crate) fn month_start(long: bool, m: usize) -> u32
-    requires { (1 ≤ m) × (m ≤ 12) }
-    ensures { result ≡ before_month long m }
-{
-    if long { LEAP[m - 1] } else { PLAIN[m - 1] }
+// A year of the table, counted from 1970.
+#[derive(Clone, Copy)]
+pub(crate) struct Year {
+    pub(crate) index: usize,
+    ghost inside: { index < 230 },
 }
 
-// Whether the year 1970 + k is a leap year, read off the year table.
-pub(crate) fn is_long(k: usize) -> bool
-    requires { k < 230 }
-    ensures { result ≡ leap (1970 + k) }
-{
-    year_start(k + 1) - year_start(k) == 366
+// A month, 1 for January, of a leap year or of a plain one.
+#[derive(Clone, Copy)]
+pub(crate) struct Month {
+    pub(crate) number: usize,
+    pub(crate) long: bool,
+    ghost low: { 1 ≤ number },
+    ghost high: { number ≤ 12 },
 }
 
-// How many days the month m has in a leap year, or in a plain one.
-pub(crate) fn days_in(long: bool, m: usize) -> u32
-    requires { (1 ≤ m) × (m ≤ 12) }
-    ensures { result ≡ month_length long m }
-{
-    if m == 12 {
-        31
-    } else {
-        month_start(long, m + 1) - month_start(long, m)
+impl Year {
+    // The year in which the day lies.
+    pub(crate) fn of_day(day: Day) -> Year
+        ensures { (before_year result.index ≤ day.number) × (day.number < before_year (result.index + 1)) }
+    {
+        Year {
+            index: YEARS.partition_point(|&start| start <= day.number) - 1,
+        }
+    }
+
+    // The day number of its 1 January.
+    pub(crate) fn start(self) -> u32
+        ensures { result ≡ before_year self.index }
+    {
+        year_start(self.index)
+    }
+
+    // Whether it is a leap year, read off the year table.
+    pub(crate) fn is_long(self) -> bool
+        ensures { result ≡ leap (1970 + self.index) }
+    {
+        year_start(self.index + 1) - year_start(self.index) == 366
+    }
+}
+
+impl Month {
+    // The month in which the day lies that is rest days after 1 January.
+    pub(crate) fn of_rest(long: bool, rest: u32) -> Month
+        ensures year { result.long ≡ long }
+        ensures from { before_month result.long result.number ≤ rest }
+        ensures to { result.number < 12 → rest < before_month result.long (result.number + 1) }
+    {
+        Month {
+            number: month_starts(long).partition_point(|&start| start <= rest),
+            long,
+        }
+    }
+
+    // The days of its year before it.
+    pub(crate) fn start(self) -> u32
+        ensures { result ≡ before_month self.long self.number }
+    {
+        month_starts(self.long)[self.number - 1]
+    }
+
+    // How many days it has.
+    pub(crate) fn days(self) -> u32
+        ensures { result ≡ month_length self.long self.number }
+    {
+        if self.number == 12 {
+            return 31;
+        }
+        let next = Month {
+            number: self.number + 1,
+            long: self.long,
+        };
+        next.start() - self.start()
     }
 }

@@ -1,12 +1,13 @@
-// Place numbers and ranks are separate counters: neither is taken for the other, or for a day.
+// Place numbers and ranks are separate counters: neither is taken for the other, or for a day. So `new` says which one is made.
+// `number` is no `From`: `u32::from` would be no shorter and say less.
 ghost use Rattle.std.specs.Prelude.{◌≡◌};
 
 // The number of a place. Whether a store has that place is for the store to say.
-#[derive(Clone, Copy, PartialEq, Eq, Debug)]
+#[derive(Clone, Copy, PartialEq, Eq, PartialOrd, Ord, Debug, Hash)]
 pub struct PlaceNumber(u32);
 
 // Where a place stands in the topological order, counted from 0.
-#[derive(Clone, Copy, PartialEq, Eq, Debug)]
+#[derive(Clone, Copy, PartialEq, Eq, PartialOrd, Ord, Debug, Hash)]
 pub struct Rank(u32);
 
 impl PlaceNumber {

@@ -1,77 +1,70 @@
-// Why a call was refused.
-ghost use Rattle.std.specs.Prelude.{◌≡◌};
-ghost use Rattle.common.specs.Refusals.{number as number_of};
+// Why a call was refused, with the number of each reason.
+ghost use Rattle.std.specs.Prelude.{◌≡◌, Some};
+ghost use Rattle.common.specs.Refusals.{number as number_of, words};
 
-#[derive(Clone, Copy, PartialEq, Eq, Debug)]
+use std::error::Error;
+use std::fmt;
+
+#[derive(Clone, Copy, PartialEq, Eq, Debug, Hash)]
 pub enum Refusal {
-    // the store has no place of this number
-    NoSuchPlace,
-    // the place is absent
-    Absent,
-    // the place is present already
-    Present,
-    // the two places are linked already
-    Linked,
-    // the two places are not linked
-    NotLinked,
-    // the link would close a circle
-    Circle,
-    // the link table is full
-    Full,
-    // a permit is out
-    PermitOut,
-    // no permit for this place and day is out
-    NoPermit,
-    // a value or a date outside its range
-    OutOfRange,
-    // the label is not free on the day
-    NotFree,
-    // a link leaves the place
-    Leaving,
-    // the caller's list is too short
-    ShortList,
-    // the label is free on the day, so nothing is to be explained
-    Free,
-    // a number of places or links outside its limits
-    BadSize,
-    // a table that is too short
-    ShortTable,
-    // the caller's buffer is too short
-    ShortBuffer,
-    // a byte or a run of bytes that is no item
-    NoItem,
-    // an item that is not allowed there
-    NotAllowed,
-    // the text ends inside a line
-    Unfinished,
+    NoSuchPlace = 1,
+    Absent = 2,
+    Present = 3,
+    Linked = 4,
+    NotLinked = 5,
+    Circle = 6,
+    Full = 7,
+    PermitOut = 8,
+    NoPermit = 9,
+    OutOfRange = 10,
+    NotFree = 11,
+    Leaving = 12,
+    ShortList = 13,
+    Free = 14,
+    BadSize = 15,
+    ShortTable = 16,
+    ShortBuffer = 17,
+    NoItem = 18,
+    NotAllowed = 19,
+    Unfinished = 20,
 }
 
-impl Refusal {
-    // The number by which users know the refusal.
-    pub fn number(self) -> u8
-        ensures { result ≡ number_of self }
-    {
-        match self {
-            Refusal::NoSuchPlace => 1,
-            Refusal::Absent => 2,
-            Refusal::Present => 3,
-            Refusal::Linked => 4,
-            Refusal::NotLinked => 5,
-            Refusal::Circle => 6,
-            Refusal::Full => 7,
-            Refusal::PermitOut => 8,
-            Refusal::NoPermit => 9,
-            Refusal::OutOfRange => 10,
-            Refusal::NotFree => 11,
-            Refusal::Leaving => 12,
-            Refusal::ShortList => 13,
-            Refusal::Free => 14,
-            Refusal::BadSize => 15,
-            Refusal::ShortTable => 16,
-            Refusal::ShortBuffer => 17,
-            Refusal::NoItem => 18,
-            Refusal::NotAllowed => 19,
-            Refusal::Unfinished => 20,
-        }
+// The number by which users know the refusal.
+impl From<Refusal> for u8 {
+    ghost from_gives = { λ refusal n. n ≡ number_of refusal };
+
+    fn from(refusal: Refusal) -> u8 {
+        refusal as u8
     }
 }
+
+impl fmt::Display for Refusal {
+    ghost output = { λ refusal. Some (words refusal) };
+
+    fn fmt<W: fmt::Write>(&self, f: &mut fmt::Formatter<W>) -> fmt::Result {
+        f.write_str(match self {
+            Refusal::NoSuchPlace => "the store has no place of this number",
+            Refusal::Absent => "the place is absent",
+            Refusal::Present => "the place is present already",
+            Refusal::Linked => "the two places are linked already",
+            Refusal::NotLinked => "the two places are not linked",
+            Refusal::Circle => "the link would close a circle",
+            Refusal::Full => "the link table is full",
+            Refusal::PermitOut => "a permit is out",
+            Refusal::NoPermit => "no permit for this place and day is out",
+            Refusal::OutOfRange => "a value or a date is outside its range",
+            Refusal::NotFree => "the label is not free on the day",
+            Refusal::Leaving => "a link leaves the place",
+            Refusal::ShortList => "the caller's list is too short",
+            Refusal::Free => "the label is free on the day, so nothing is to be explained",
+            Refusal::BadSize => "a number of places or links is outside its limits",
+            Refusal::ShortTable => "a table is too short",
+            Refusal::ShortBuffer => "the caller's buffer is too short",
+            Refusal::NoItem => "a byte or a run of bytes is no item",
+            Refusal::NotAllowed => "an item is not allowed there",
+            Refusal::Unfinished => "the text ends inside a line",
+        })
+    }
+}
+
+impl Error for Refusal {}

@@ -1,5 +1,5 @@
 // The day that a line names, and what is printed for it.
-ghost use Rattle.std.specs.Prelude.{◌≡◌, ℕ, List, [], ◌∷◌, ◌++◌, decimal, OnOk};
+ghost use Rattle.std.specs.Prelude.{◌≡◌, ℕ, List, ◌++◌, string_bytes, IfOk, OnOk};
 ghost use Rattle.days.specs.Lookup.{Answers as AnswersLine, printed, Prints};
 
 use calendar::{Date, Day};
@@ -14,42 +14,17 @@ pub fn look_up(line: &[u8]) -> Result<Day, Refusal>
     if Date::read(line).is_some() {
         return Day::read(line);
     }
-    match number_in(line) {
-        Some(number) => Day::new(number),
-        None => Err(Refusal::NoItem),
-    }
+    let number = number_in(line).ok_or(Refusal::NoItem)?;
+    Day::try_from(number)
 }
 
-// Appends a number and a newline.
-fn push_number(heap: Global, number: u32, out: &mut Vec<u8>) -> Result<(), AllocError>
-    ensures { OnOk result (out.new.items ≡ out.old.items ++ (decimal number ++ (10 ∷ []))) }
-{
-    let digits = format!(in heap; "{number}")?;
-    out.extend_from_slice(digits.as_bytes())?;
-    out.extend_from_slice(b"\n")?;
-    Ok(())
-}
-
-// Appends what is printed of an answer.
-fn push_answer(
-    heap: Global,
-    answer: Result<Day, Refusal>,
-    out: &mut Vec<u8>,
-) -> Result<(), AllocError>
-    ensures { OnOk result (out.new.items ≡ out.old.items ++ printed answer) }
+// What is printed of an answer.
+fn text_of(heap: Global, answer: Result<Day, Refusal>) -> Result<String, AllocError>
+    ensures { IfOk result (λ text. string_bytes text ≡ printed answer) }
 {
     match answer {
-        Ok(day) => {
-            out.extend_from_slice(&day.text())?;
-            out.extend_from_slice(b" ")?;
-            push_number(heap, day.number, out)?;
-            Ok(())
-        }
-        Err(refusal) => {
-            out.extend_from_slice(b"refused ")?;
-            push_number(heap, u32::from(refusal.number()), out)?;
-            Ok(())
-        }
+        Ok(day) => format!(in heap; "{day} {}\n", day.number),
+        Err(refusal) => format!(in heap; "refused {}\n", u8::from(refusal)),
     }
 }
 
@@ -57,6 +32,7 @@ fn push_answer(
 pub fn report(heap: Global, line: &[u8], out: &mut Vec<u8>) -> Result<(), AllocError>
     ensures { OnOk result ((text : List ℕ) × Prints line.now text × (out.new.items ≡ out.old.items ++ text)) }
 {
-    let answer = look_up(line);
-    push_answer(heap, answer, out)
+    // Not by `writeln!`: to a Vec of bytes it answers an `io::Error`.
+    let text = text_of(heap, look_up(line))?;
+    out.extend_from_slice(text.as_bytes())
 }

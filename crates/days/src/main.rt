@@ -9,7 +9,7 @@ use std::io::{BufRead, BufReader, Write};
 fn main(rt: HostRuntime) -> io::Result<()> {
     let heap = rt.alloc();
     let mut out = Vec::new(heap);
-    for line in BufReader::new(heap, rt.stdin())?.split(heap, 10) {
+    for line in BufReader::new(heap, rt.stdin())?.split(heap, b'\n') {
         let line = line?;
         lookup::report(heap, line.as_slice(), &mut out)?;
     }

@@ -2,7 +2,7 @@
 use Rattle.std.specs.Prelude.{ℕ, true, false, cond, List, codes}
 use Rattle.std.specs.Str.{bytes_eq}
 use Rattle.items.specs.Lex.{Piece}
-use Rattle.reading.specs.Reading.{Read, then, give, pick, by_sort, Choice, take_it, refuse, not_allowed, no_run, opens, closes, spaces, breaks, counts, days, form_fault}
+use Rattle.reading.specs.Reading.{Read, then, give, pick, by_sort, Choice, take_it, refuse, not_allowed, no_run, opens, closes, spaces, breaks, counts, dated, form_fault}
 use Rattle.parts.specs.Spelling.{Spelling}
 use Rattle.forms.specs.declared.form.Keyword.{Keyword}
 use Rattle.forms.specs.declared.form.Keyword.TheVariants.{Bring, Own, Link, Unlink, Label, Explain, List as Listing, Discard}
@@ -37,25 +37,25 @@ keywords = by_sort not_allowed not_allowed not_allowed not_allowed named no_run 
 abbrev pub place : Read ℕ
 place = then (pick spaces) (λ _. pick counts)
 
--- a space and a date
-abbrev pub on_day : Read ℕ
-on_day = then (pick spaces) (λ _. pick days)
-
 -- the closing bracket and the newline
 abbrev pub closed : {X : Type 0} → X → Read X
 closed x = then (pick closes) (λ _. then (pick breaks) (λ _. give x))
 
 module _ {L P : Type 0} (labels : Spelling L) (passages : Spelling P) where
-  -- what follows the name of a form
+  -- what follows the name of a form, up to the closing bracket
+  abbrev pub said : Keyword → Read (Line L P)
+  said Bring = then place (λ p. give (bring p))
+  said Own = then place (λ p. then (labels.reading false true) (λ l. give (own p l.0)))
+  said Link = then place (λ p. then place (λ q. then (passages.reading false true) (λ t. give (link p q t.0))))
+  said Unlink = then place (λ p. then place (λ q. give (unlink p q)))
+  said Label = then place (λ p. give (label p))
+  said Explain = then place (λ p. then dated (λ d. give (explain p d)))
+  said Listing = then dated (λ d. give (listing d))
+  said Discard = then place (λ p. then dated (λ d. give (discard p d)))
+
+  -- up to and with the newline
   abbrev pub form_rest : Keyword → Read (Line L P)
-  form_rest Bring = then place (λ p. closed (bring p))
-  form_rest Own = then place (λ p. then (labels.reading false true) (λ l. closed (own p l.0)))
-  form_rest Link = then place (λ p. then place (λ q. then (passages.reading false true) (λ t. closed (link p q t.0))))
-  form_rest Unlink = then place (λ p. then place (λ q. closed (unlink p q)))
-  form_rest Label = then place (λ p. closed (label p))
-  form_rest Explain = then place (λ p. then on_day (λ d. closed (explain p d)))
-  form_rest Listing = then on_day (λ d. closed (listing d))
-  form_rest Discard = then place (λ p. then on_day (λ d. closed (discard p d)))
+  form_rest k = then (said k) closed
 
   abbrev pub form : Read (Line L P)
   form = then (pick opens) (λ _. then (pick keywords) form_rest)

@@ -1,5 +1,6 @@
 -- The lines of a text, one after the other: a fault's line is left, and reading goes on after it. Assumes nothing.
-use Rattle.std.specs.Prelude.{◌≡◌, ℕ, ◌<◌, ◌≤◌, cond, List, [], ◌∷◌, length, drop, Ok, Err, Result, ◌==◌}
+use Rattle.std.specs.Prelude.{◌≡◌, ℕ, ◌<◌, ◌≤◌, List, length, drop, Ok, Err, Result, ◌==◌}
+use Rattle.std.specs.List.{after_first}
 use Rattle.reading.specs.Reading.{Out, ok, bad}
 use Rattle.reading.specs.Agree.{flaw}
 use Rattle.reading.specs.declared.fault.Fault.{Fault}
@@ -8,9 +9,8 @@ use Rattle.forms.specs.Meaning.{line_of}
 use Rattle.forms.specs.declared.form.Form.{Form}
 
 -- the text after the next newline
-unfoldable pub after_line : List ℕ → List ℕ
-after_line [] = []
-after_line (b ∷ bs) = cond (b == 10) bs (after_line bs)
+abbrev pub after_line : List ℕ → List ℕ
+after_line bs = after_first (λ b. b == 10) bs
 
 -- the line at a place gave the form or the fault r, and the next line begins at the place next
 abbrev pub LineRead : {L P : Type 0} → List ℕ → ℕ → Out (Line L P) → Result (Form L P) Fault → ℕ → Type 0

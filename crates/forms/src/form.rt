@@ -3,7 +3,7 @@ use calendar::Day;
 use common::PlaceNumber;
 
 // The word that begins a form.
-#[derive(Clone, Copy)]
+#[derive(Clone, Copy, PartialEq, Eq, Debug)]
 pub enum Keyword {
     Bring,
     Own,
@@ -16,7 +16,7 @@ pub enum Keyword {
 }
 
 // L are the labels, P the passages.
-#[derive(Clone, Copy)]
+#[derive(Clone, Copy, PartialEq, Eq, Debug)]
 pub enum Form<L, P> {
     Bring(PlaceNumber),
     Own(PlaceNumber, L),

@@ -1,38 +1,40 @@
 // The lines of a text, one after the other.
-ghost use Rattle.std.specs.Prelude.{◌≡◌, ℕ, ◌+◌, ◌<◌, ◌≤◌, length, drop};
+ghost use Rattle.std.specs.Prelude.{◌≡◌, ℕ, ◌+◌, ◌<◌, ◌≤◌, length};
+ghost use Rattle.reading.specs.Agree.{rest};
 ghost use Rattle.forms.specs.Grammar.{form};
 ghost use Rattle.forms.specs.Lines.{after_line, LineRead};
 
 use super::form::Form;
 use super::rest::read_form;
-use reading::Fault;
+use items::before_break;
+use reading::{Fault, Reader};
 use written::Written;
 
-// The place after the next newline, or the text's end.
-fn skip_line(text: &[u8], at: usize) -> usize
-    requires { at ≤ length text.now }
-    ensures rest { drop result text.now ≡ after_line (drop at text.now) }
-    ensures from { at ≤ result }
-    ensures within { result ≤ length text.now }
-    ensures rises { at < length text.now → at < result }
+// Past the next newline, or to the text's end.
+fn skip_line(reader: &mut Reader)
+    ensures text { reader.new.text ≡ reader.old.text }
+    ensures rest { rest reader.new ≡ after_line (rest reader.old) }
+    ensures from { reader.old.at ≤ reader.new.at }
+    ensures rises { reader.old.at < length reader.old.text.now → reader.old.at < reader.new.at }
 {
-    let mut i = at;
-    while i < text.len() {
-        if text[i] == 10 {
-            return i + 1;
-        }
-        i += 1;
-    }
-    i
+    let end = reader.at + before_break(&reader.text[reader.at..]);
+    reader.at = if end < reader.text.len() {
+        end + 1
+    } else {
+        end
+    };
 }
 
-// The form or the fault of the line that begins at a place of the text, and the place where the next line begins.
-pub fn read_line<K: Written>(text: &[u8], at: usize) -> (Result<Form<K, K::Passage>, Fault>, usize)
-    requires { at < length text.now }
-    ensures { LineRead text.now at (form K.Written.spelling K.Written.stepping (drop at text.now)) result.0 result.1 }
+// The form or the fault of the line at which the reader stands. Then it stands at the next line.
+pub fn read_line<K: Written>(reader: &mut Reader) -> Result<Form<K, K::Passage>, Fault>
+    requires { reader.old.at < length reader.old.text.now }
+    ensures text { reader.new.text ≡ reader.old.text }
+    ensures line { LineRead reader.old.text.now reader.old.at (form K.Text.TextForm.spelling K.PassageText.TextForm.spelling (rest reader.old)) result reader.new.at }
 {
-    match read_form::<K>(text, at) {
-        Ok((form, next)) => (Ok(form), next),
-        Err(fault) => (Err(fault), skip_line(text, fault.at)),
+    let read = read_form::<K>(reader);
+    if let Err(fault) = read {
+        reader.at = fault.at;
+        skip_line(reader);
     }
+    read
 }

@@ -1,11 +1,12 @@
 -- Sets of claims keep the laws. Assumes nothing.
-use Rattle.std.specs.Prelude.{◌≡◌, Bool, true, false, ◌&&◌, ◌||◌, refl}
+use Rattle.std.specs.Prelude.{◌≡◌, ◌==◌, Bool, true, false, ◌&&◌, ◌||◌, refl}
 use Rattle.std.proofs.Common.{ap}
 use Rattle.paths.specs.Kind.{FreeLaws}
-use Rattle.kinds.specs.Meanings.{Lawful}
+use Rattle.kinds.specs.Meanings.{Lawful, Tells}
 use Rattle.house.specs.ClaimSets.{claims_means, member}
 use Rattle.house.specs.BitLaws.{same_bits, clear_or, clear_none}
-use Rattle.house.specs.ValuesLemmas.{claims_eq}
+use Rattle.house.specs.declared.claims.Claims.{Claims}
+use Rattle.house.specs.ValuesLemmas.{numbers_tell, claims_eq}
 
 or_same : (a : Bool) → (a || a) ≡ a
 or_same true = refl
@@ -27,6 +28,9 @@ or_and true true false = refl
 or_and true false true = refl
 or_and true false false = refl
 or_and false b c = refl
+
+pub claims_tells : Tells (λ (a b : Claims). a.bits == b.bits)
+claims_tells = numbers_tell (λ a. a.bits) claims_eq
 
 pub claims_lawful : Lawful claims_means
 claims_lawful = record {

@@ -4,11 +4,12 @@ use Rattle.std.proofs.Common.{arith}
 use Rattle.calendar.specs.declared.day.Day.{Day}
 use Rattle.kinds.specs.Meanings.{Meaning}
 use Rattle.house.specs.declared.expiry.Expiry.{Expiry}
-use Rattle.house.specs.declared.expiry.Span.{Span}
-use Rattle.house.specs.declared.expiry.YearCount.{YearCount}
+use Rattle.house.specs.declared.count.Count.{Count}
 use Rattle.house.specs.declared.expiry.ExpiryPassageRow.{ExpiryPassageRow}
 use Rattle.house.specs.declared.expiry.ExpiryPassage.{ExpiryPassage}
 use Rattle.house.specs.declared.expiry.ExpiryPassage.TheVariants.{Pass, Cap, Add, Years}
+use Rattle.house.specs.declared.expiry.ExpiryPassageRow.TheVariants.{Pass as PassRow, Cap as CapRow, Add as AddRow, Years as YearsRow}
+use Rattle.house.specs.Ranges.{nearest}
 
 -- n days later: an empty expiry stays empty, and a sum over the last day becomes that day
 abbrev pub shifted : ℕ → ℕ → ℕ
@@ -17,14 +18,14 @@ shifted n v = cond (v == 0) 0 (min (v + n) 84005)
 abbrev pub expiry_carry : ExpiryPassage → ℕ → ℕ
 expiry_carry Pass v = v
 expiry_carry (Cap d) v = min v d.number
-expiry_carry (Add s) v = shifted s.days v
+expiry_carry (Add s) v = shifted s.count v
 expiry_carry (Years y) v = shifted (365 * y.count) v
 
 -- the passage is that of n days
 abbrev pub IsAdd : ℕ → ExpiryPassage → Type 0
 IsAdd n Pass = ⊥
 IsAdd n (Cap d) = ⊥
-IsAdd n (Add s) = s.days ≡ n
+IsAdd n (Add s) = s.count ≡ n
 IsAdd n (Years y) = ⊥
 
 -- the passage is that of n years
@@ -39,20 +40,23 @@ abbrev pub expiry_of : ℕ → Expiry
 expiry_of n = record { number = min n 84005; high = omega arith }
 
 abbrev pub day_of : ℕ → Day
-day_of n = record { number = min (max n 1) 84005; low = omega arith; high = omega arith }
+day_of n = record { number = nearest 1 84005 n; low = omega arith; high = omega arith }
 
-abbrev pub span_of : ℕ → Span
-span_of n = record { days = min (max n 1) 36500; low = omega arith; high = omega arith }
+abbrev pub span_of : ℕ → Count 36500
+span_of n = record { count = nearest 1 36500 n; low = omega arith; high = omega arith }
 
-abbrev pub years_of : ℕ → YearCount
-years_of n = record { count = min (max n 1) 100; low = omega arith; high = omega arith }
+abbrev pub years_of : ℕ → Count 100
+years_of n = record { count = nearest 1 100 n; low = omega arith; high = omega arith }
 
 abbrev pub expiry_passage_of : ExpiryPassageRow → ExpiryPassage
-expiry_passage_of r =
-    let n = r.count in
-    cond (r.form == 1) (Cap (day_of n))
-    (cond (r.form == 2) (Add (span_of n))
-    (cond (r.form == 3) (Years (years_of n)) Pass))
+expiry_passage_of PassRow = Pass
+expiry_passage_of (CapRow n) = Cap (day_of n)
+expiry_passage_of (AddRow n) = Add (span_of n)
+expiry_passage_of (YearsRow n) = Years (years_of n)
+
+-- the row of a form and a number: 1 is cap, 2 is add, 3 is years, and any other form pass
+abbrev pub row_of : ℕ → ℕ → ExpiryPassageRow
+row_of form n = cond (form == 1) (CapRow n) (cond (form == 2) (AddRow n) (cond (form == 3) (YearsRow n) PassRow))
 
 abbrev pub expiry_means : Meaning Expiry ExpiryPassage ℕ ExpiryPassageRow
 expiry_means = record {

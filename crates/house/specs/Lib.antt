@@ -6,5 +6,6 @@ pub mod Locks
 pub mod ClaimsLaws
 pub mod BitLaws
 pub mod ValuesLemmas
+pub mod ChainLaws
 pub mod ExpiryLaws
 pub mod LockLaws

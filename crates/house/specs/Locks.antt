@@ -2,8 +2,7 @@
 use Rattle.std.specs.Prelude.{◌≡◌, ℕ, min, max, cond, nat_lt}
 use Rattle.std.proofs.Common.{arith}
 use Rattle.kinds.specs.Meanings.{Meaning}
-use Rattle.house.specs.declared.lock.Lock.{Lock}
-use Rattle.house.specs.declared.lock.Ceiling.{Ceiling}
+use Rattle.house.specs.declared.level.Level.{Level}
 use Rattle.house.specs.declared.lock.LockPassage.{LockPassage}
 use Rattle.house.specs.declared.lock.LockPassage.TheVariants.{Pass, Most}
 
@@ -17,17 +16,17 @@ IsMost n Pass = ⊥
 IsMost n (Most c) = c.level ≡ n
 
 -- any number stands for a lock: the nearest one
-abbrev pub lock_of : ℕ → Lock
+abbrev pub lock_of : ℕ → Level 3
 lock_of n = record { level = min n 3; high = omega arith }
 
-abbrev pub ceiling_of : ℕ → Ceiling
+abbrev pub ceiling_of : ℕ → Level 2
 ceiling_of n = record { level = min n 2; high = omega arith }
 
 -- 0 to 2 is a ceiling, and any other number pass
 abbrev pub lock_passage_of : ℕ → LockPassage
 lock_passage_of n = cond (nat_lt n 3) (Most (ceiling_of n)) Pass
 
-abbrev pub lock_means : Meaning Lock LockPassage ℕ ℕ
+abbrev pub lock_means : Meaning (Level 3) LockPassage ℕ ℕ
 lock_means = record {
   Value = ℕ;
   value = λ lock. lock.level;

@@ -5,7 +5,7 @@ mod label;
 mod making;
 
 // A set of numbers 0 to 63, one bit for each.
-#[derive(Clone, Copy)]
+#[derive(Clone, Copy, PartialEq, Eq, Debug, Hash)]
 pub struct Claims {
     bits: u64,
     ghost fits: { bits < 2 ^ 64 },

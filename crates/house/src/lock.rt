@@ -1,24 +1,17 @@
 // Locks and their passages.
-ghost use Rattle.std.specs.Prelude.{◌≤◌};
+use super::level::Level;
 
 mod label;
 mod making;
 
-// A lock from 0, which is empty, to 3. No value of this type is outside that range.
-#[derive(Clone, Copy)]
-pub struct Lock {
-    pub level: u8,
-    ghost high: { level ≤ 3 },
-}
+// A lock from 0, which is empty, to 3.
+pub type Lock = Level<3>;
 
 // The highest level that a passage lets through, from 0 to 2.
-#[derive(Clone, Copy)]
-pub struct Ceiling {
-    pub level: u8,
-    ghost high: { level ≤ 2 },
-}
+pub type Ceiling = Level<2>;
 
-#[derive(Clone, Copy)]
+// Not an `Option`: as in the passages of expiries, `Pass` says that all goes through.
+#[derive(Clone, Copy, PartialEq, Eq, Debug, Hash)]
 pub enum LockPassage {
     Pass,
     // the lower of the two

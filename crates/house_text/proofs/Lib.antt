@@ -1,1 +1,2 @@
-pub mod ClaimsLeft
+pub mod Given
+pub mod Turns

@@ -4,7 +4,7 @@ use Rattle.std.proofs.Common.{sym, ap, subst, ◌∙◌, inl, inr, ⊎_elim, app
 use Rattle.std.proofs.lemmas.Nat.{mod-pow-add}
 use Rattle.std.specs.Str.{bytes_eq}
 use Rattle.std.proofs.lemmas.Bool.{eqb-true, eqb-false, cond-true, cond-false, cases_Bool, le-leb}
-use Rattle.items.specs.Lex.{run, every, word, number, value_of}
+use Rattle.items.specs.Lex.{run, word, number, value_of}
 use Rattle.reading.specs.Reading.{ok, bad, Read, item, after, then, give, settled, chosen, pick, spaces, numbers, ends, form_fault}
 use Rattle.reading.specs.Locality.{Unbroken, Local}
 use Rattle.reading.specs.Alikes.{then_local, give_local, pick_local, either_local, ends_same}
@@ -109,14 +109,14 @@ some_back bits b n tail =
     cond-false _ _ _ opens_it ∙ whole_back bits b tail
 
 word_claims : (bs tail : List ℕ) → Stops bs tail → item (codes "claims" ++ bs) ≡ ok (word (codes "claims")) bs
-unfolding Stops run every item
+unfolding Stops run item
 word_claims bs tail =
     ⊎_elim
     (λ s. subst (λ (l : List ℕ). item (codes "claims" ++ l) ≡ ok (word (codes "claims")) l) (sym s.1) refl)
     (λ s. subst (λ (l : List ℕ). item (codes "claims" ++ l) ≡ ok (word (codes "claims")) l) (sym s) refl)
 
 word_only : (bs tail : List ℕ) → Stops bs tail → item (codes "only" ++ bs) ≡ ok (word (codes "only")) bs
-unfolding Stops run every item
+unfolding Stops run item
 word_only bs tail =
     ⊎_elim
     (λ s. subst (λ (l : List ℕ). item (codes "only" ++ l) ≡ ok (word (codes "only")) l) (sym s.1) refl)

@@ -28,6 +28,10 @@ any_rising bs = rising 65 0 0 bs
 abbrev pub some_rising : Read ℕ
 some_rising bs = cond (ends (item bs)) (bad form_fault bs) (any_rising bs)
 
+-- a space and the number k, if it is in the set
+abbrev pub claim_at : ℕ → ℕ → List ℕ
+claim_at bits k = cond (bit bits k) (32 ∷ decimal k) []
+
 -- of the m numbers from k on, those in the set, a space before each
 unfoldable pub claims_from : ℕ → ℕ → ℕ → List ℕ
 claims_from bits k zero = []
@@ -44,9 +48,19 @@ set_part name body none = record {
   args = λ c. claims_from c.bits 0 64;
 }
 
+abbrev pub claims_name : List ℕ
+claims_name = codes "claims"
+
 abbrev pub claims_part : Part Claims
-claims_part = set_part (codes "claims") some_rising 0
+claims_part = set_part claims_name some_rising 0
+
+abbrev pub only_name : List ℕ
+only_name = codes "only"
+
+-- the set of all claims
+abbrev pub every_claim : ℕ
+every_claim = 18446744073709551615
 
 -- all claims pass where it is left out
 abbrev pub only_part : Part Claims
-only_part = set_part (codes "only") any_rising 18446744073709551615
+only_part = set_part only_name any_rising every_claim

@@ -2,18 +2,22 @@
 use Rattle.std.specs.Prelude.{ℕ, Bool, true, false, cond, ◌||◌, List, [], ◌∷◌, codes, decimal, ◌==◌}
 use Rattle.std.specs.Str.{bytes_eq}
 use Rattle.calendar.specs.Text.{day_text}
-use Rattle.reading.specs.Reading.{Read, then, give, pick, spaces, days, counts_in}
+use Rattle.reading.specs.Reading.{Read, then, give, pick, spaces, dated, counts_in}
 use Rattle.house.specs.declared.expiry.Expiry.{Expiry}
 use Rattle.house.specs.declared.expiry.ExpiryPassage.{ExpiryPassage}
 use Rattle.house.specs.declared.expiry.ExpiryPassage.TheVariants.{Pass, Cap, Add, Years}
-use Rattle.house.specs.Expiries.{expiry_of, expiry_passage_of}
+use Rattle.house.specs.Expiries.{expiry_of, day_of, span_of, years_of}
 use Rattle.parts.specs.Parts.{Part}
+
+-- a space and a number from low to high
+abbrev pub counted : ℕ → ℕ → Read ℕ
+counted low high = then (pick spaces) (λ _. pick (counts_in low high))
 
 abbrev pub until_word : List ℕ → Bool
 until_word w = bytes_eq w (codes "until")
 
 abbrev pub until_body : Read Expiry
-until_body = then (pick spaces) (λ _. then (pick days) (λ n. give (expiry_of n)))
+until_body = then dated (λ n. give (expiry_of n))
 
 abbrev pub until_part : Part Expiry
 until_part = record {
@@ -28,18 +32,10 @@ until_part = record {
 abbrev pub step_word : List ℕ → Bool
 step_word w = bytes_eq w (codes "cap") || (bytes_eq w (codes "add") || bytes_eq w (codes "years"))
 
--- the passage of a row: form 1 is cap, 2 is add and 3 is years
-abbrev pub step_of : ℕ → ℕ → ExpiryPassage
-step_of form n = expiry_passage_of (record { form = form; count = n })
-
-abbrev pub cap_body : Read ExpiryPassage
-cap_body = then (pick spaces) (λ _. then (pick days) (λ n. give (step_of 1 n)))
-
-abbrev pub count_body : ℕ → ℕ → Read ExpiryPassage
-count_body form most = then (pick spaces) (λ _. then (pick (counts_in 1 most)) (λ n. give (step_of form n)))
-
 abbrev pub step_body : List ℕ → Read ExpiryPassage
-step_body w bs = cond (bytes_eq w (codes "cap")) (cap_body bs) (cond (bytes_eq w (codes "add")) (count_body 2 36500 bs) (count_body 3 100 bs))
+step_body w bs =
+    cond (bytes_eq w (codes "cap")) (then dated (λ n. give (Cap (day_of n))) bs)
+    (cond (bytes_eq w (codes "add")) (then (counted 1 36500) (λ n. give (Add (span_of n))) bs) (then (counted 1 100) (λ n. give (Years (years_of n))) bs))
 
 abbrev pub lets_all : ExpiryPassage → Bool
 lets_all Pass = true
@@ -56,7 +52,7 @@ step_first (Years y) = codes "years"
 abbrev pub step_args : ExpiryPassage → List ℕ
 step_args Pass = []
 step_args (Cap d) = 32 ∷ day_text d.number
-step_args (Add s) = 32 ∷ decimal s.days
+step_args (Add s) = 32 ∷ decimal s.count
 step_args (Years y) = 32 ∷ decimal y.count
 
 abbrev pub step_part : Part ExpiryPassage

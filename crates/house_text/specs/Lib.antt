@@ -7,3 +7,4 @@ pub mod Runs
 pub mod ExpiryBack
 pub mod LockBack
 pub mod Words
+pub mod StepApart

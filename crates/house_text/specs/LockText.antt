@@ -1,20 +1,21 @@
 -- The lock in text, `(lock R)` with R from 1 to 3, and its passage, `(most S)` with S from 0 to 2. Assumes nothing.
 use Rattle.std.specs.Prelude.{ℕ, ◌+◌, Bool, true, false, List, [], ◌∷◌, codes, ◌==◌}
 use Rattle.std.specs.Str.{bytes_eq}
-use Rattle.reading.specs.Reading.{Read, then, give, pick, spaces, counts_in}
-use Rattle.house.specs.declared.lock.Lock.{Lock}
+use Rattle.reading.specs.Reading.{Read, then, give}
+use Rattle.house.specs.declared.level.Level.{Level}
 use Rattle.house.specs.declared.lock.LockPassage.{LockPassage}
 use Rattle.house.specs.declared.lock.LockPassage.TheVariants.{Pass, Most}
 use Rattle.house.specs.Locks.{lock_of, lock_passage_of}
 use Rattle.parts.specs.Parts.{Part}
+use Rattle.house_text.specs.ExpiryText.{counted}
 
 abbrev pub lock_word : List ℕ → Bool
 lock_word w = bytes_eq w (codes "lock")
 
-abbrev pub lock_body : Read Lock
-lock_body = then (pick spaces) (λ _. then (pick (counts_in 1 3)) (λ n. give (lock_of n)))
+abbrev pub lock_body : Read (Level 3)
+lock_body = then (counted 1 3) (λ n. give (lock_of n))
 
-abbrev pub lock_part : Part Lock
+abbrev pub lock_part : Part (Level 3)
 lock_part = record {
   mine = lock_word;
   body = λ _. lock_body;
@@ -28,7 +29,7 @@ abbrev pub most_word : List ℕ → Bool
 most_word w = bytes_eq w (codes "most")
 
 abbrev pub most_body : Read LockPassage
-most_body = then (pick spaces) (λ _. then (pick (counts_in 0 2)) (λ n. give (lock_passage_of n)))
+most_body = then (counted 0 2) (λ n. give (lock_passage_of n))
 
 abbrev pub passes_all : LockPassage → Bool
 passes_all Pass = true

@@ -13,7 +13,7 @@ use Rattle.reading.specs.Locality.{Unbroken}
 use Rattle.reading.specs.Items.{item_some}
 
 run_stops : (ds : List ℕ) (s : ℕ) (rest : List ℕ) → every in_run ds ≡ true → in_run s ≡ false → run (ds ++ s ∷ rest) ≡ ds
-unfolding run every
+unfolding run
 run_stops [] s rest e h = cond-false _ _ _ h
 run_stops (d ∷ ds) s rest e h = let p = and_parts (in_run d) (every in_run ds) e in cond-true _ _ _ p.0 ∙ ap (λ l. d ∷ l) (run_stops ds s rest p.1 h)
 
@@ -21,13 +21,11 @@ digit_runs : (d : ℕ) → digit d ≡ true → in_run d ≡ true
 digit_runs d e = or_right (lower d) (digit d || d == 45) (or_left (digit d) (d == 45) e)
 
 every_run : (ds : List ℕ) → every digit ds ≡ true → every in_run ds ≡ true
-unfolding every
 every_run [] e = refl
 every_run (d ∷ ds) e = let p = and_parts (digit d) (every digit ds) e in and_from (in_run d) (every in_run ds) (digit_runs d p.0) (every_run ds p.1)
 
 -- the first byte of a row of digits
 first_digit : (ds : List ℕ) → 0 < length ds → every digit ds ≡ true → (48 ≤ slice_index ds 0) × (every lower ds ≡ false)
-unfolding every
 first_digit [] h e = absurd (omega arith)
 first_digit (d ∷ ds) h e =
     let p = and_parts (nat_le 48 d) (nat_le d 57) (and_parts (digit d) (every digit ds) e).0 in
@@ -58,7 +56,6 @@ number_back n s rest h stop =
     (item_some bs long ∙ ap (λ q. item_by q bs) p ∙ ap (ok (number ds)) (drop_at ds (s ∷ rest) (length ds) refl), t.1)
 
 unbroken_digits : (ds : List ℕ) → every digit ds ≡ true → Unbroken ds
-unfolding every
 unbroken_digits [] e = tt
 unbroken_digits (d ∷ ds) e =
     let p = and_parts (digit d) (every digit ds) e in
@@ -72,7 +69,6 @@ abbrev ten : ℕ → ℕ → ℕ → ℕ → ℕ → ℕ → ℕ → ℕ → Lis
 ten a b c d e f g h = a ∷ b ∷ c ∷ d ∷ 45 ∷ e ∷ f ∷ 45 ∷ g ∷ h ∷ []
 
 ten_item : (a b c d e f g h : ℕ) (tail : List ℕ) → is_date (ten a b c d e f g h) ≡ true → item (ten a b c d e f g h ++ 41 ∷ tail) ≡ ok (date (ten a b c d e f g h)) (41 ∷ tail)
-unfolding every
 ten_item a b c d e f g h tail t =
     let r = ten a b c d e f g h in
     let bs = r ++ 41 ∷ tail in

@@ -1,73 +1,74 @@
 // What follows the word of a part: numbers and dates, a space before each.
-ghost use Rattle.std.specs.Prelude.{◌≡◌, ℕ, ◌+◌, ◌≤◌, ◌∷◌, ◌++◌, length, decimal};
+ghost use Rattle.std.specs.Prelude.{◌+◌, ◌≤◌, [], ◌∷◌, ◌++◌, decimal};
 ghost use Rattle.calendar.specs.Text.{day_text};
-ghost use Rattle.parts.specs.Buffers.{Put, Room};
+ghost use Rattle.reading.specs.Agree.{Takes};
+ghost use Rattle.house_text.specs.ExpiryText.{counted};
 
 use calendar::Day;
-use parts::{number_room, put, put_number, room_less};
+use house::{Count, Level};
+use parts::{Sink, put_number};
+use reading::{Fault, Mark, Reader};
 
-// What is left of the room after a space and the number.
-pub(crate) fn spaced_room(room: usize, n: u32) -> Option<usize>
-    ensures { Room room (32 ∷ decimal n) result }
+// A space and a number from 1 to MOST.
+pub(crate) fn take_count<const MOST: u32>(reader: &mut Reader) -> Result<Count<MOST>, Fault>
+    ensures { Takes reader.old reader.new 1 (λ c. c.count) (counted 1 MOST) result }
 {
-    match room_less(room, 1) {
-        None => None,
-        Some(rest) => number_room(rest, n),
-    }
+    reader.mark(Mark::Space)?;
+    let count = reader.number_from(1, MOST)?;
+    Ok(Count { count })
 }
 
-// Writes a space and the number.
-pub(crate) fn put_spaced(out: &mut [u8], at: usize, n: u32) -> usize
-    requires { at + length (32 ∷ decimal n) ≤ length out.old }
-    ensures { Put out.old at (32 ∷ decimal n) out.new result }
+// A space and a level from LOW to TOP.
+pub(crate) fn take_level<const LOW: u8, const TOP: u8>(
+    reader: &mut Reader,
+) -> Result<Level<TOP>, Fault>
+    ensures { Takes reader.old reader.new 1 (λ l. l.level) (counted LOW TOP) result }
 {
-    let from = put(out, at, b" ");
-    put_number(out, from, n)
+    reader.mark(Mark::Space)?;
+    let level = reader.number_from(u32::from(LOW), u32::from(TOP))?;
+    Ok(Level { level: level as u8 })
 }
 
-// What is left of the room after the word, a space and the number.
-pub(crate) fn count_room(room: usize, word: &[u8], n: u32) -> Option<usize>
-    ensures { Room room (word.now ++ (32 ∷ decimal n)) result }
+// A space and the number.
+pub(crate) fn put_spaced<S: Sink>(out: &mut S, n: u32)
+    requires { S.fits out.old (32 ∷ decimal n) }
+    ensures { S.took out.old (32 ∷ decimal n) out.new }
 {
-    match room_less(room, word.len()) {
-        None => None,
-        Some(rest) => spaced_room(rest, n),
-    }
+    out.put(b" ");
+    put_number(out, n);
 }
 
-pub(crate) fn put_count(out: &mut [u8], at: usize, word: &[u8], n: u32) -> usize
-    requires { at + length (word.now ++ (32 ∷ decimal n)) ≤ length out.old }
-    ensures { Put out.old at (word.now ++ (32 ∷ decimal n)) out.new result }
+pub(crate) fn put_count<S: Sink>(out: &mut S, word: &[u8], n: u32)
+    requires { S.fits out.old (word.now ++ (32 ∷ decimal n)) }
+    ensures { S.took out.old (word.now ++ (32 ∷ decimal n)) out.new }
 {
-    let from = put(out, at, word);
-    put_spaced(out, from, n)
+    out.put(word);
+    put_spaced(out, n);
 }
 
-// What is left of the room after the word, a space and the day's date.
-pub(crate) fn day_room(room: usize, word: &[u8], day: Day) -> Option<usize>
-    ensures { Room room (word.now ++ (32 ∷ day_text day.number)) result }
+// A level is one digit. Numbers, levels and dates are put apart, since each has a text of its own.
+pub(crate) fn put_level<S: Sink>(out: &mut S, word: &[u8], level: u8)
+    requires digit { level ≤ 9 }
+    requires fits { S.fits out.old (word.now ++ (32 ∷ (48 + level) ∷ [])) }
+    ensures { S.took out.old (word.now ++ (32 ∷ (48 + level) ∷ [])) out.new }
 {
-    match room_less(room, word.len()) {
-        None => None,
-        Some(rest) => room_less(rest, 11),
-    }
+    out.put(word);
+    out.put(&[b' ', b'0' + level]);
 }
 
-// Writes a space and the day's date.
-fn put_date(out: &mut [u8], at: usize, day: Day) -> usize
-    requires { at + length (32 ∷ day_text day.number) ≤ length out.old }
-    ensures { Put out.old at (32 ∷ day_text day.number) out.new result }
+// A space and the day's date.
+fn put_date<S: Sink>(out: &mut S, day: Day)
+    requires { S.fits out.old (32 ∷ day_text day.number) }
+    ensures { S.took out.old (32 ∷ day_text day.number) out.new }
 {
-    let date = day.text();
-    let from = put(out, at, b" ");
-    put(out, from, &date)
+    out.put(b" ");
+    out.put(&day.text());
 }
 
-// Writes the word, a space and the day's date.
-pub(crate) fn put_day(out: &mut [u8], at: usize, word: &[u8], day: Day) -> usize
-    requires { at + length (word.now ++ (32 ∷ day_text day.number)) ≤ length out.old }
-    ensures { Put out.old at (word.now ++ (32 ∷ day_text day.number)) out.new result }
+pub(crate) fn put_day<S: Sink>(out: &mut S, word: &[u8], day: Day)
+    requires { S.fits out.old (word.now ++ (32 ∷ day_text day.number)) }
+    ensures { S.took out.old (word.now ++ (32 ∷ day_text day.number)) out.new }
 {
-    let from = put(out, at, word);
-    put_date(out, from, day)
+    out.put(word);
+    put_date(out, day);
 }

@@ -1,97 +1,124 @@
 // Claims and their passages in text.
-ghost use Rattle.std.specs.Prelude.{◌≡◌, ◌^◌, ◌<◌, ◌==◌};
-ghost use Rattle.house_text.specs.ClaimsText.{bits_of, claims_part, only_part};
+ghost use Rattle.std.specs.Prelude.{◌≡◌, ℕ, List};
+ghost use Rattle.reading.specs.Reading.{Read};
+ghost use Rattle.reading.specs.Agree.{Takes};
+ghost use Rattle.parts.specs.Parts.{Whole};
+ghost use Rattle.house_text.specs.ClaimsText.{set_part, claims_name, some_rising, only_name, any_rising, every_claim};
 ghost use Rattle.house_text.specs.ClaimsBack.{claims_whole, only_whole};
 
-use super::rising::{claims_room, put_claims, read_any, read_some};
+use super::rising::{put_claims, read_any, read_some};
 use house::Claims;
 use kinds::LabelKind;
-use parts::{PartText, put, room_less};
-use reading::{Fault, same_bytes};
+use parts::{PartText, Sink};
+use reading::{Fault, Reader};
+use std::marker::PhantomData;
 
-// `(claims N ..)`
-pub struct ClaimsText;
+// How a set is written: its word, how many numbers may follow, and the set that has no part.
+pub trait SetForm {
+    ghost name: { List ℕ };
 
-// `(only N ..)`
-pub struct OnlyText;
+    ghost body: { Read ℕ };
 
-fn is_row(claims: Claims, row: u64) -> bool
-    requires { row < 2 ^ 64 }
-    ensures { result ≡ ((bits_of claims) == row) }
-{
-    claims.same(Claims::from_row(row))
+    ghost none: { ℕ };
+
+    fn name() -> &'static [u8]
+        ensures { result.now ≡ name };
+
+    fn none() -> u64
+        ensures { result ≡ none };
+
+    fn read(reader: &mut Reader) -> Result<u64, Fault>
+        ensures { Takes reader.old reader.new 0 (λ x. x) body result };
+
+    ghost whole: { Whole (set_part name body none) };
 }
 
-impl PartText for ClaimsText {
-    type Value = Claims;
+// One claim or more, and none without a part.
+pub struct SomeClaims;
 
-    ghost part = { claims_part };
+// Any number of claims, and all without a part.
+pub struct OnlyClaims;
+
+impl SetForm for SomeClaims {
+    ghost name = { claims_name };
+
+    ghost body = { some_rising };
+
+    ghost none = { 0 };
 
     ghost whole = { claims_whole };
 
-    fn is_word(word: &[u8]) -> bool {
-        same_bytes(word, b"claims")
+    fn name() -> &'static [u8] {
+        b"claims"
     }
 
-    fn none() -> Claims {
-        Claims::from_row(0)
+    fn none() -> u64 {
+        0
     }
 
-    fn is_none(value: Claims) -> bool {
-        is_row(value, 0)
-    }
-
-    fn read_args(text: &[u8], at: usize, _word: &[u8]) -> Result<(Claims, usize), Fault> {
-        let (set, end) = read_some(text, at)?;
-        Ok((Claims::from_row(set), end))
-    }
-
-    fn room_inside(value: Claims, room: usize) -> Option<usize> {
-        match room_less(room, 6) {
-            None => None,
-            Some(rest) => claims_room(rest, value, 64),
-        }
-    }
-
-    fn put_inside(value: Claims, out: &mut [u8], at: usize) -> usize {
-        let from = put(out, at, b"claims");
-        put_claims(out, from, value, 64)
+    fn read(reader: &mut Reader) -> Result<u64, Fault> {
+        read_some(reader)
     }
 }
 
-impl PartText for OnlyText {
-    type Value = Claims;
+impl SetForm for OnlyClaims {
+    ghost name = { only_name };
 
-    ghost part = { only_part };
+    ghost body = { any_rising };
+
+    ghost none = { every_claim };
 
     ghost whole = { only_whole };
 
+    fn name() -> &'static [u8] {
+        b"only"
+    }
+
+    fn none() -> u64 {
+        u64::MAX
+    }
+
+    fn read(reader: &mut Reader) -> Result<u64, Fault> {
+        read_any(reader)
+    }
+}
+
+// A set of claims as a part.
+pub struct SetText<F> {
+    pub form: PhantomData<F>,
+}
+
+// `(claims N ..)`
+pub type ClaimsText = SetText<SomeClaims>;
+
+// `(only N ..)`
+pub type OnlyText = SetText<OnlyClaims>;
+
+impl<F: SetForm> PartText for SetText<F> {
+    type Value = Claims;
+
+    ghost part = { set_part F.SetForm.name F.SetForm.body F.SetForm.none };
+
+    ghost whole = { F.SetForm.whole };
+
     fn is_word(word: &[u8]) -> bool {
-        same_bytes(word, b"only")
+        word == F::name()
     }
 
     fn none() -> Claims {
-        Claims::from_row(u64::MAX)
+        Claims::from_row(F::none())
     }
 
     fn is_none(value: Claims) -> bool {
-        is_row(value, u64::MAX)
+        value == Claims::from_row(F::none())
     }
 
-    fn read_args(text: &[u8], at: usize, _word: &[u8]) -> Result<(Claims, usize), Fault> {
-        let (set, end) = read_any(text, at)?;
-        Ok((Claims::from_row(set), end))
+    fn read_args(reader: &mut Reader, _word: &[u8]) -> Result<Claims, Fault> {
+        Ok(Claims::from_row(F::read(reader)?))
     }
 
-    fn room_inside(value: Claims, room: usize) -> Option<usize> {
-        match room_less(room, 4) {
-            None => None,
-            Some(rest) => claims_room(rest, value, 64),
-        }
-    }
-
-    fn put_inside(value: Claims, out: &mut [u8], at: usize) -> usize {
-        let from = put(out, at, b"only");
-        put_claims(out, from, value, 64)
+    fn put_inside<S: Sink>(value: Claims, out: &mut S) {
+        out.put(F::name());
+        put_claims(out, value);
     }
 }

@@ -1,20 +1,19 @@
 // Expiries and their passages in text.
-ghost use Rattle.std.specs.Prelude.{◌≡◌, ℕ, ◌+◌, ◌≤◌, length, drop};
-ghost use Rattle.reading.specs.Agree.{Reads};
-ghost use Rattle.house_text.specs.ExpiryText.{until_part, step_part, cap_body, count_body};
+ghost use Rattle.house_text.specs.ExpiryText.{until_part, step_part};
 ghost use Rattle.house_text.specs.ExpiryBack.{until_whole, step_whole};
 
-use super::args::{count_room, day_room, put_count, put_day};
+use super::args::{put_count, put_day, take_count};
 use calendar::Day;
-use house::{Expiry, ExpiryPassage, ExpiryPassageRow};
+use house::{Expiry, ExpiryPassage};
 use kinds::LabelKind;
-use parts::{PartText, room_less};
-use reading::{Fault, same_bytes, take_day, take_in, take_space};
+use parts::{PartText, Sink};
+use reading::{Fault, Reader};
 
 // `(until DATE)`
 pub struct UntilText;
 
-// `(cap DATE)`, `(add N)` or `(years N)`
+// `(cap DATE)`, `(add N)` or `(years N)`. Beside the expiry it differs in words, values and what has no part, so a form of both would only
+// pass these on.
 pub struct StepText;
 
 impl PartText for UntilText {
@@ -25,7 +24,7 @@ impl PartText for UntilText {
     ghost whole = { until_whole };
 
     fn is_word(word: &[u8]) -> bool {
-        same_bytes(word, b"until")
+        word == b"until".as_slice()
     }
 
     fn none() -> Expiry {
@@ -36,45 +35,16 @@ impl PartText for UntilText {
         value.number == 0
     }
 
-    fn read_args(text: &[u8], at: usize, _word: &[u8]) -> Result<(Expiry, usize), Fault> {
-        let (_, at) = take_space(text, at)?;
-        let (day, at) = take_day(text, at)?;
-        Ok((Expiry::from_row(day.number), at))
+    fn read_args(reader: &mut Reader, _word: &[u8]) -> Result<Expiry, Fault> {
+        Ok(Expiry::from_row(reader.spaced_day()?.number))
     }
 
-    fn room_inside(_value: Expiry, room: usize) -> Option<usize> {
-        room_less(room, 16)
-    }
-
-    fn put_inside(value: Expiry, out: &mut [u8], at: usize) -> usize {
+    fn put_inside<S: Sink>(value: Expiry, out: &mut S) {
         let day = Day {
             number: value.number,
         };
-        put_day(out, at, b"until", day)
+        put_day(out, b"until", day);
     }
-}
-
-fn read_cap(text: &[u8], at: usize) -> Result<(ExpiryPassage, usize), Fault>
-    requires { at ≤ length text.now }
-    ensures { Reads text.now at (λ x. x) (cap_body (drop at text.now)) result }
-{
-    let (_, at) = take_space(text, at)?;
-    let (day, at) = take_day(text, at)?;
-    let row = ExpiryPassageRow {
-        form: 1,
-        count: day.number,
-    };
-    Ok((Expiry::passage_from_row(row), at))
-}
-
-fn read_count(text: &[u8], at: usize, form: u8, most: u32) -> Result<(ExpiryPassage, usize), Fault>
-    requires { at ≤ length text.now }
-    ensures { Reads text.now at (λ x. x) (count_body form most (drop at text.now)) result }
-{
-    let (_, at) = take_space(text, at)?;
-    let (count, at) = take_in(text, at, 1, most)?;
-    let row = ExpiryPassageRow { form, count };
-    Ok((Expiry::passage_from_row(row), at))
 }
 
 impl PartText for StepText {
@@ -85,7 +55,7 @@ impl PartText for StepText {
     ghost whole = { step_whole };
 
     fn is_word(word: &[u8]) -> bool {
-        same_bytes(word, b"cap") || same_bytes(word, b"add") || same_bytes(word, b"years")
+        matches!(word, b"cap" | b"add" | b"years")
     }
 
     fn none() -> ExpiryPassage {
@@ -93,37 +63,23 @@ impl PartText for StepText {
     }
 
     fn is_none(value: ExpiryPassage) -> bool {
-        match value {
-            ExpiryPassage::Pass => true,
-            _ => false,
+        matches!(value, ExpiryPassage::Pass)
+    }
+
+    fn read_args(reader: &mut Reader, word: &[u8]) -> Result<ExpiryPassage, Fault> {
+        match word {
+            b"cap" => Ok(ExpiryPassage::Cap(reader.spaced_day()?)),
+            b"add" => Ok(ExpiryPassage::Add(take_count(reader)?)),
+            _ => Ok(ExpiryPassage::Years(take_count(reader)?)),
         }
     }
 
-    fn read_args(text: &[u8], at: usize, word: &[u8]) -> Result<(ExpiryPassage, usize), Fault> {
-        if same_bytes(word, b"cap") {
-            return read_cap(text, at);
-        }
-        if same_bytes(word, b"add") {
-            return read_count(text, at, 2, 36500);
-        }
-        read_count(text, at, 3, 100)
-    }
-
-    fn room_inside(value: ExpiryPassage, room: usize) -> Option<usize> {
+    fn put_inside<S: Sink>(value: ExpiryPassage, out: &mut S) {
         match value {
-            ExpiryPassage::Pass => Some(room),
-            ExpiryPassage::Cap(day) => day_room(room, b"cap", day),
-            ExpiryPassage::Add(span) => count_room(room, b"add", span.days),
-            ExpiryPassage::Years(years) => count_room(room, b"years", years.count),
-        }
-    }
-
-    fn put_inside(value: ExpiryPassage, out: &mut [u8], at: usize) -> usize {
-        match value {
-            ExpiryPassage::Pass => at,
-            ExpiryPassage::Cap(day) => put_day(out, at, b"cap", day),
-            ExpiryPassage::Add(span) => put_count(out, at, b"add", span.days),
-            ExpiryPassage::Years(years) => put_count(out, at, b"years", years.count),
+            ExpiryPassage::Pass => (),
+            ExpiryPassage::Cap(day) => put_day(out, b"cap", day),
+            ExpiryPassage::Add(span) => put_count(out, b"add", span.count),
+            ExpiryPassage::Years(years) => put_count(out, b"years", years.count),
         }
     }
 }

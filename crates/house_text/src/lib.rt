@@ -5,6 +5,7 @@ mod args;
 pub mod claims;
 pub mod expiry;
 pub mod lock;
+mod order;
 mod rising;
 
 pub use claims::{ClaimsText, OnlyText};

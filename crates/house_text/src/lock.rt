@@ -2,15 +2,16 @@
 ghost use Rattle.house_text.specs.LockText.{lock_part, most_part};
 ghost use Rattle.house_text.specs.LockBack.{lock_whole, most_whole};
 
+use super::args::{put_level, take_level};
 use house::{Lock, LockPassage};
 use kinds::LabelKind;
-use parts::{PartText, put, room_less};
-use reading::{Fault, same_bytes, take_in, take_space};
+use parts::{PartText, Sink};
+use reading::{Fault, Reader};
 
 // `(lock R)`
 pub struct LockText;
 
-// `(most S)`
+// `(most S)`. Beside the lock it differs in value, range and what has no part, so a form of both would only pass these on.
 pub struct MostText;
 
 impl PartText for LockText {
@@ -21,7 +22,7 @@ impl PartText for LockText {
     ghost whole = { lock_whole };
 
     fn is_word(word: &[u8]) -> bool {
-        same_bytes(word, b"lock")
+        word == b"lock".as_slice()
     }
 
     fn none() -> Lock {
@@ -32,18 +33,12 @@ impl PartText for LockText {
         value.level == 0
     }
 
-    fn read_args(text: &[u8], at: usize, _word: &[u8]) -> Result<(Lock, usize), Fault> {
-        let (_, at) = take_space(text, at)?;
-        let (n, at) = take_in(text, at, 1, 3)?;
-        Ok((Lock::from_row(n as u8), at))
+    fn read_args(reader: &mut Reader, _word: &[u8]) -> Result<Lock, Fault> {
+        take_level::<1, 3>(reader)
     }
 
-    fn room_inside(_value: Lock, room: usize) -> Option<usize> {
-        room_less(room, 6)
-    }
-
-    fn put_inside(value: Lock, out: &mut [u8], at: usize) -> usize {
-        put(out, at, &[b'l', b'o', b'c', b'k', b' ', b'0' + value.level])
+    fn put_inside<S: Sink>(value: Lock, out: &mut S) {
+        put_level(out, b"lock", value.level);
     }
 }
 
@@ -55,7 +50,7 @@ impl PartText for MostText {
     ghost whole = { most_whole };
 
     fn is_word(word: &[u8]) -> bool {
-        same_bytes(word, b"most")
+        word == b"most".as_slice()
     }
 
     fn none() -> LockPassage {
@@ -63,33 +58,17 @@ impl PartText for MostText {
     }
 
     fn is_none(value: LockPassage) -> bool {
-        match value {
-            LockPassage::Pass => true,
-            LockPassage::Most(_) => false,
-        }
+        matches!(value, LockPassage::Pass)
     }
 
-    fn read_args(text: &[u8], at: usize, _word: &[u8]) -> Result<(LockPassage, usize), Fault> {
-        let (_, at) = take_space(text, at)?;
-        let (n, at) = take_in(text, at, 0, 2)?;
-        Ok((Lock::passage_from_row(n as u8), at))
+    fn read_args(reader: &mut Reader, _word: &[u8]) -> Result<LockPassage, Fault> {
+        Ok(LockPassage::Most(take_level::<0, 2>(reader)?))
     }
 
-    fn room_inside(value: LockPassage, room: usize) -> Option<usize> {
+    fn put_inside<S: Sink>(value: LockPassage, out: &mut S) {
         match value {
-            LockPassage::Pass => Some(room),
-            LockPassage::Most(_) => room_less(room, 6),
-        }
-    }
-
-    fn put_inside(value: LockPassage, out: &mut [u8], at: usize) -> usize {
-        match value {
-            LockPassage::Pass => at,
-            LockPassage::Most(ceiling) => put(
-                out,
-                at,
-                &[b'm', b'o', b's', b't', b' ', b'0' + ceiling.level],
-            ),
+            LockPassage::Pass => (),
+            LockPassage::Most(ceiling) => put_level(out, b"most", ceiling.level),
         }
     }
 }

@@ -1,87 +1,74 @@
 // Rising numbers of claims in text.
-ghost use Rattle.std.specs.Prelude.{◌≡◌, ℕ, ◌+◌, ◌-◌, ◌≤◌, length, drop, IfOk};
+ghost use Rattle.std.specs.Prelude.{◌≡◌, ℕ, ◌+◌, ◌≤◌, IfOk};
 ghost use Rattle.reading.specs.Reading.{pick, numbers};
-ghost use Rattle.reading.specs.Agree.{Reads};
-ghost use Rattle.parts.specs.Buffers.{Put, Room};
-ghost use Rattle.house_text.specs.ClaimsText.{bits_of, risen, any_rising, some_rising, claims_from};
+ghost use Rattle.reading.specs.Agree.{Takes};
+ghost use Rattle.house_text.specs.ClaimsText.{bits_of, risen, any_rising, some_rising, claim_at, claims_from};
 
-use super::args::{put_spaced, spaced_room};
+use super::args::put_spaced;
 use house::Claims;
-use reading::{Fault, at_close, not_allowed, out_of_range, take_number, take_space};
+use parts::Sink;
+use reading::{Fault, Mark, Reader, not_allowed, out_of_range};
 
 // A claim from low on.
-fn take_claim(text: &[u8], at: usize, low: u32) -> Result<(u32, usize), Fault>
-    requires { at ≤ length text.now }
-    ensures reads { Reads text.now (at + 1) (λ x. x) (pick (numbers (risen low)) (drop at text.now)) result }
-    ensures range { IfOk result (λ v. (low ≤ v.0) × (v.0 ≤ 63)) }
+fn take_claim(reader: &mut Reader, low: u32) -> Result<u32, Fault>
+    ensures reads { Takes reader.old reader.new 1 (λ x. x) (pick (numbers (risen low))) result }
+    ensures range { IfOk result (λ n. (low ≤ n) × (n ≤ 63)) }
 {
-    let (n, next) = take_number(text, at)?;
+    let at = reader.at;
+    let n = reader.number()?;
+    // Two ranges with a fault each, and the first has one bound.
     if n > 63 {
         return Err(out_of_range(at));
     }
     if n < low {
         return Err(not_allowed(at));
     }
-    Ok((n, next))
+    Ok(n)
 }
 
 // The rising claims before a closing bracket, as a set of bits.
-pub(crate) fn read_any(text: &[u8], at: usize) -> Result<(u64, usize), Fault>
-    requires { at ≤ length text.now }
-    ensures { Reads text.now at (λ x. x) (any_rising (drop at text.now)) result }
+pub(crate) fn read_any(reader: &mut Reader) -> Result<u64, Fault>
+    ensures { Takes reader.old reader.new 0 (λ x. x) any_rising result }
 {
-    let mut here = at;
     let mut low: u32 = 0;
     let mut set: u64 = 0;
-    while !at_close(text, here) {
-        let (_, p) = take_space(text, here)?;
-        let (n, q) = take_claim(text, p, low)?;
+    while !reader.at_close() {
+        reader.mark(Mark::Space)?;
+        let n = take_claim(reader, low)?;
         set += 1 << n;
         low = n + 1;
-        here = q;
     }
-    Ok((set, here))
+    Ok(set)
 }
 
-// The same, with one claim at least.
-pub(crate) fn read_some(text: &[u8], at: usize) -> Result<(u64, usize), Fault>
-    requires { at ≤ length text.now }
-    ensures { Reads text.now at (λ x. x) (some_rising (drop at text.now)) result }
+// The same, with one claim at least: it refuses a closing bracket that comes first, and `read_any` does the reading.
+// Not one function with a flag: `claims` has this rule and `only` the other, and each calls its own.
+pub(crate) fn read_some(reader: &mut Reader) -> Result<u64, Fault>
+    ensures { Takes reader.old reader.new 0 (λ x. x) some_rising result }
 {
-    if at_close(text, at) {
-        return Err(not_allowed(at));
+    if reader.at_close() {
+        return Err(not_allowed(reader.at));
     }
-    read_any(text, at)
+    read_any(reader)
 }
 
-// What is left of the room after those of the last m numbers that are in the set.
-pub(crate) fn claims_room(room: usize, claims: Claims, m: u32) -> Option<usize>
-    requires { m ≤ 64 }
-    ensures { Room room (claims_from (bits_of claims) (64 - m) m) result }
+// A space and the number, if it is in the set.
+fn put_claim<S: Sink>(out: &mut S, claims: Claims, k: u32)
+    requires { S.fits out.old (claim_at (bits_of claims) k) }
+    ensures { S.took out.old (claim_at (bits_of claims) k) out.new }
 {
-    if m == 0 {
-        return Some(room);
-    }
-    if !claims.has(64 - m) {
-        return claims_room(room, claims, m - 1);
-    }
-    match spaced_room(room, 64 - m) {
-        None => None,
-        Some(rest) => claims_room(rest, claims, m - 1),
+    if claims.has(k) {
+        put_spaced(out, k);
     }
 }
 
-// Writes those of the last m numbers that are in the set, a space before each.
-pub(crate) fn put_claims(out: &mut [u8], at: usize, claims: Claims, m: u32) -> usize
-    requires { (m ≤ 64) × (at + length (claims_from (bits_of claims) (64 - m) m) ≤ length out.old) }
-    ensures { Put out.old at (claims_from (bits_of claims) (64 - m) m) out.new result }
+// The numbers in the set, a space before each.
+pub(crate) fn put_claims<S: Sink>(out: &mut S, claims: Claims)
+    requires { S.fits out.old (claims_from (bits_of claims) 0 64) }
+    ensures { S.took out.old (claims_from (bits_of claims) 0 64) out.new }
 {
-    if m == 0 {
-        return at;
+    // Not an index: each number of the range is a claim.
+    for k in 0..64 {
+        put_claim(out, claims, k);
     }
-    if !claims.has(64 - m) {
-        return put_claims(out, at, claims, m - 1);
-    }
-    let next = put_spaced(out, at, 64 - m);
-    put_claims(out, next, claims, m - 1)
 }

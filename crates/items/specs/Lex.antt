@@ -1,5 +1,6 @@
 -- What the items of a text are: a bracket, a space, a newline, or a run, which is a word, a number or a date. Assumes nothing.
-use Rattle.std.specs.Prelude.{ℕ, ◌+◌, ◌-◌, ◌*◌, Bool, true, cond, not, ◌&&◌, ◌||◌, List, [], ◌∷◌, length, ◌==◌, nat_le, slice_index}
+use Rattle.std.specs.Prelude.{ℕ, ◌+◌, ◌-◌, ◌*◌, Bool, cond, not, ◌&&◌, ◌||◌, List, [], ◌∷◌, length, ◌==◌, nat_le, slice_index}
+use Rattle.std.specs.List.{list_all}
 use Rattle.calendar.specs.Text.{digit, is_date}
 
 abbrev pub lower : ℕ → Bool
@@ -14,9 +15,8 @@ unfoldable pub run : List ℕ → List ℕ
 run [] = []
 run (b ∷ bs) = cond (in_run b) (b ∷ run bs) []
 
-unfoldable pub every : (ℕ → Bool) → List ℕ → Bool
-every f [] = true
-every f (b ∷ bs) = f b && every f bs
+abbrev pub every : (ℕ → Bool) → List ℕ → Bool
+every f bs = list_all f bs
 
 -- 1 to 8 letters
 abbrev pub is_word : List ℕ → Bool

@@ -10,7 +10,6 @@ use Rattle.items.specs.Lex.{every, is_number, value_from, value_of}
 use Rattle.items.specs.Theorems.{NumberTells}
 
 every_at : (f : ℕ → Bool) (xs : List ℕ) (i : ℕ) → every f xs ≡ true → i < length xs → f (get_or xs i 0) ≡ true
-unfolding every
 every_at f [] i e h = absurd (omega arith)
 every_at f (x ∷ xs) zero e h = (and_parts (f x) (every f xs) e).0
 every_at f (x ∷ xs) (suc i) e h = every_at f xs i (and_parts (f x) (every f xs) e).1 (le_of_suc-le-suc h)
@@ -36,7 +35,7 @@ value_end xs i n h = ap (value_from n) (drop_all i xs h)
 
 -- the shelf's lemmas on decimal forms, for these words
 own : IsNumeralModel (λ ds. every digit ds ≡ true) value_of
-unfolding every value_from
+unfolding value_from
 own = numerals_by_fold _ (search rules) value_from (search rules)
 
 no_zero : (n : ℕ) → n < 2 ^ 64 → (eqb (length (decimal n)) 1 || not (eqb (get_or (decimal n) 0 0) 48)) ≡ true

@@ -6,7 +6,7 @@ ghost use Rattle.items.specs.Seen.{seen, place, Lies};
 
 use super::run::{is_date_run, is_number_run, is_word_run, run_at};
 
-#[derive(Clone, Copy)]
+#[derive(Clone, Copy, PartialEq, Eq, Debug)]
 pub enum Item<'a> {
     Open(usize),
     Close(usize),
@@ -17,7 +17,7 @@ pub enum Item<'a> {
     Date(usize, &'a [u8]),
 }
 
-// The item that begins at a place of the text, if one does.
+// The item that begins at a place of the text, if one does. The reader, which holds both, is a layer above.
 pub fn item_at<'a>(text: &'a [u8], at: usize) -> Option<Item<'a>>
     ensures lies { IfSome result (Lies text.entry.ref_ptr) }
     ensures item { MatchOption result (piece (drop at text.now) ≡ no_item) (λ i. (place i ≡ at) × (seen i ≡ piece (drop at text.now))) }
@@ -26,10 +26,10 @@ pub fn item_at<'a>(text: &'a [u8], at: usize) -> Option<Item<'a>>
         return None;
     }
     match text[at] {
-        40 => Some(Item::Open(at)),
-        41 => Some(Item::Close(at)),
-        32 => Some(Item::Space(at)),
-        10 => Some(Item::Newline(at)),
+        b'(' => Some(Item::Open(at)),
+        b')' => Some(Item::Close(at)),
+        b' ' => Some(Item::Space(at)),
+        b'\n' => Some(Item::Newline(at)),
         _ => run_item(run_at(text, at), at),
     }
 }

@@ -7,5 +7,5 @@ pub mod line;
 pub mod run;
 
 pub use item::{Item, item_at};
-pub use line::line_at;
+pub use line::{before_break, line_at};
 pub use run::number_in;

@@ -1,7 +1,16 @@
-// The line of a text that has a byte.
-ghost use Rattle.std.specs.Prelude.{◌≡◌, ℕ, ◌+◌, ◌-◌, ◌<◌, ◌≤◌, min, length, slice_index};
-ghost use Rattle.std.specs.List.{between};
+// The line of a text that has a byte. Text and place are parameters: a reader, which holds both, is a layer above.
+ghost use Rattle.std.specs.Prelude.{◌≡◌, ℕ, ◌+◌, ◌-◌, ◌<◌, ◌≤◌, ◌==◌, min, length, slice_index};
+ghost use Rattle.std.specs.List.{between, position_or_len};
 ghost use Rattle.items.specs.Line.{NoBreak, Line, moved};
+
+// The place after the last newline.
+fn after_break(front: &[u8]) -> usize
+    ensures within { result ≤ length front.now }
+    ensures unbroken { NoBreak front.now result (length front.now) }
+    ensures starts { 0 < result → slice_index front.now (result - 1) ≡ 10 }
+{
+    front.iter().rposition(|b| *b == b'\n').map_or(0, |i| i + 1)
+}
 
 // Where the line that has the place begins.
 fn line_start(text: &[u8], at: usize) -> usize
@@ -10,11 +19,17 @@ fn line_start(text: &[u8], at: usize) -> usize
     ensures unbroken { NoBreak text.now result at }
     ensures starts { 0 < result → slice_index text.now (result - 1) ≡ 10 }
 {
-    let mut from = at;
-    while from > 0 && text[from - 1] != 10 {
-        from -= 1;
-    }
-    from
+    after_break(&text[..at])
+}
+
+// How many bytes stand before the first newline.
+pub fn before_break(rest: &[u8]) -> usize
+    ensures value { result ≡ position_or_len (λ b. b == 10) rest.now }
+    ensures within { result ≤ length rest.now }
+    ensures unbroken { NoBreak rest.now 0 result }
+    ensures ends { result < length rest.now → slice_index rest.now result ≡ 10 }
+{
+    rest.iter().take_while(|b| **b != b'\n').count()
 }
 
 // Where the line that has the place ends.
@@ -25,11 +40,7 @@ fn line_end(text: &[u8], at: usize) -> usize
     ensures unbroken { NoBreak text.now at result }
     ensures ends { result < length text.now → slice_index text.now result ≡ 10 }
 {
-    let mut to = at;
-    while to < text.len() && text[to] != 10 {
-        to += 1;
-    }
-    to
+    at + before_break(&text[at..])
 }
 
 // The line around a byte, without its newline: that part of the text itself. A byte beyond the text counts as its length.

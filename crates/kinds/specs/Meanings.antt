@@ -1,5 +1,5 @@
 -- What the labels of a kind mean. Assumes nothing.
-use Rattle.std.specs.Prelude.{◌≡◌, Bool, ℕ}
+use Rattle.std.specs.Prelude.{◌≡◌, Bool, true, ℕ}
 use Rattle.paths.specs.Kind.{Kind, Laws}
 
 -- L are the labels, P the passages, R and S the rows in which these two lie in a table
@@ -14,6 +14,11 @@ pub record Meaning (L P R S : Type 0) : Type 1 where
   -- the label and the passage that each row stands for
   pub stands : R → L
   pub leads : S → P
+
+-- a test answers yes for equal labels and for no others
+pub record Tells {L : Type 0} (test : L → L → Bool) : Type 0 where
+  pub yes : (a b : L) → a ≡ b → test a b ≡ true
+  pub only : (a b : L) → test a b ≡ true → a ≡ b
 
 -- labels of one value are equal, and the values keep the laws of join and passage
 pub record Lawful {L P R S : Type 0} (m : Meaning L P R S) : Type 0 where

@@ -1,8 +1,10 @@
 -- The pair of two kinds keeps the laws. Assumes nothing.
 use Rattle.std.specs.Prelude.{◌≡◌, refl, Bool, true, false, ◌&&◌}
 use Rattle.std.proofs.Common.{ap}
+use Rattle.std.proofs.lemmas.Bool.{and_parts, and_from}
 use Rattle.paths.specs.Kind.{FreeLaws}
-use Rattle.kinds.specs.Meanings.{Meaning, Lawful}
+use Rattle.kinds.specs.Meanings.{Meaning, Lawful, Tells}
+use Rattle.kinds.specs.declared.pair.Pair.{Pair}
 use Rattle.kinds.specs.Pairs.{pair_means}
 
 and_swap : (a b c d : Bool) → ((a && b) && (c && d)) ≡ ((a && c) && (b && d))
@@ -10,6 +12,16 @@ and_swap true true c d = refl
 and_swap true false true d = refl
 and_swap true false false d = refl
 and_swap false b c d = refl
+
+pub pair_tells : {A B : Type 0} {s : A → A → Bool} {t : B → B → Bool} → Tells s → Tells t → Tells (λ (x y : Pair A B). s x.first y.first && t x.second y.second)
+pair_tells {s = s} {t = t} first second = record {
+  yes = λ x y e. and_from (s x.first y.first) (t x.second y.second) (first.yes x.first y.first (ap (λ p. p.first) e)) (second.yes x.second y.second (ap (λ p. p.second) e));
+  only = λ x y e.
+      let both = and_parts (s x.first y.first) (t x.second y.second) e in
+      let p = first.only x.first y.first both.0 in
+      let q = second.only x.second y.second both.1 in
+      λ i. record { first = p i; second = q i };
+}
 
 module _ {LA PA Ra SA LB PB RB SB : Type 0} (m : Meaning LA PA Ra SA) (n : Meaning LB PB RB SB) where
   pub pair_lawful : Lawful m → Lawful n → Lawful (pair_means m n)

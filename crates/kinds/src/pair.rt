@@ -1,11 +1,11 @@
 // The pair of two kinds is a kind, part by part.
 ghost use Rattle.kinds.specs.Pairs.{pair_means};
-ghost use Rattle.kinds.specs.PairLaws.{pair_lawful, pair_freeing};
+ghost use Rattle.kinds.specs.PairLaws.{pair_tells, pair_lawful, pair_freeing};
 
 use super::kind::LabelKind;
 use calendar::Day;
 
-#[derive(Clone, Copy)]
+#[derive(Clone, Copy, PartialEq, Eq, Debug, Hash)]
 pub struct Pair<A, B> {
     pub first: A,
     pub second: B,
@@ -24,6 +24,8 @@ impl<A: LabelKind, B: LabelKind> LabelKind for Pair<A, B> {
 
     ghost blankpassage = { record { first = A.LabelKind.blankpassage; second = B.LabelKind.blankpassage } };
 
+    ghost tells = { pair_tells A.LabelKind.tells B.LabelKind.tells };
+
     ghost lawful = { pair_lawful A.LabelKind.means B.LabelKind.means A.LabelKind.lawful B.LabelKind.lawful };
 
     ghost freeing = { pair_freeing A.LabelKind.means B.LabelKind.means A.LabelKind.freeing B.LabelKind.freeing };
@@ -40,10 +42,6 @@ impl<A: LabelKind, B: LabelKind> LabelKind for Pair<A, B> {
             first: self.first.join(other.first),
             second: self.second.join(other.second),
         }
-    }
-
-    fn same(self, other: Pair<A, B>) -> bool {
-        self.first.same(other.first) && self.second.same(other.second)
     }
 
     fn carry(self, passage: Pair<A::Passage, B::Passage>) -> Pair<A, B> {

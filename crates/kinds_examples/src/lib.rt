@@ -25,7 +25,7 @@ mod tests {
 
     #[test]
     fn add_stops_at_the_last_day(rt: HostRuntime) {
-        let add = ExpiryPassage::Add(Span { days: 30 });
+        let add = ExpiryPassage::Add(Span { count: 30 });
         let early = Expiry { number: 1 }.carry(add);
         let edge = Expiry { number: 83975 }.carry(add);
         let late = Expiry { number: 84000 }.carry(add);
@@ -99,7 +99,7 @@ mod tests {
             },
         };
         let passed = label.carry(Pair {
-            first: ExpiryPassage::Add(Span { days: 30 }),
+            first: ExpiryPassage::Add(Span { count: 30 }),
             second: Pair {
                 first: Claims::none(),
                 second: LockPassage::Most(Ceiling { level: 1 }),
@@ -121,22 +121,19 @@ mod tests {
             [joined.second.second.level, passed.second.second.level],
             [2, 1]
         );
-        assert!(rt; House::from_row(label.to_row()).same(label));
+        assert_eq!(rt; House::from_row(label.to_row()), label);
     }
 
     #[test]
     fn a_row_outside_the_range_is_read_as_the_nearest(rt: HostRuntime) {
-        let nothing = Expiry::passage_from_row(ExpiryPassageRow { form: 2, count: 0 });
+        let nothing = Expiry::passage_from_row(ExpiryPassageRow::Add(0));
         assert_eq!(rt; Expiry { number: 1 }.carry(nothing).number, 2);
         assert_eq!(rt; Lock::from_row(9).level, 3);
     }
 
     #[test]
     fn numbers_out_of_range_are_refused(rt: HostRuntime) {
-        let expiries = [
-            Expiry::from_number(84005).err(),
-            Expiry::from_number(84006).err(),
-        ];
+        let expiries = [Expiry::try_from(84005).err(), Expiry::try_from(84006).err()];
         let spans = [
             ExpiryPassage::add(36500).err(),
             ExpiryPassage::add(36501).err(),
@@ -147,7 +144,7 @@ mod tests {
             ExpiryPassage::years(101).err(),
         ];
         let claims = [Claims::none().with(63).err(), Claims::none().with(64).err()];
-        let locks = [Lock::new(3).err(), Lock::new(4).err()];
+        let locks = [Lock::try_from(3).err(), Lock::try_from(4).err()];
         let ceilings = [LockPassage::most(2).err(), LockPassage::most(3).err()];
         let expected = [None, Some(Refusal::OutOfRange)];
         assert_eq!(rt;

@@ -1,15 +1,16 @@
 -- What a sorted thread says of the links. Assumes nothing.
-use Rattle.std.proofs.Common.{◌≡◌, ℕ, suc, ◌<◌, Bool, true, false, cond, ltb, List, length, get_or, Some, None, Option, sym, refl, ◌∙◌, subst, arith, ltb-false, ltb-true}
+use Rattle.std.proofs.Common.{◌≡◌, ℕ, ◌<◌, ◌↔◌, Bool, true, false, eqb, List, length, Some, None, Option, is_some, sym, refl, ◌∙◌, arith, eqb-true, eq-eqb}
+use Rattle.std.specs.Bool.{then_some}
+use borrow.Author.Tests.{both_ways}
 use Rattle.links.specs.declared.row.Slot.{Slot}
 use Rattle.links.specs.declared.row.LinkRow.{LinkRow}
 use Rattle.links.specs.declared.row.Heads.{Heads}
 use Rattle.links.specs.declared.row.Side.{Side}
 use Rattle.links.specs.declared.row.Side.TheVariants.{Leaving, Entering}
-use Rattle.links.specs.Threads.{Least, Sorted, Gap}
+use Rattle.links.specs.Threads.{Sorted, Gap}
 use Rattle.links.specs.declared.row.Link.{Link}
-use Rattle.links.specs.Table.{Shape, at, hub, key, next, view, Sound, Occupied, Leads, linked, links, Lowest, Next, Found, slot_of, end_of, key_of, Told, ahead}
-use Rattle.links.proofs.Held.{live_link, link_live, link_by_live}
-use Rattle.links.proofs.Rows.{linked_read}
+use Rattle.links.specs.Table.{Shape, at, hub, key, view, Sound, Leads, LinkFrom, linked, links, Found, end_of, key_of}
+use Rattle.links.proofs.Held.{live_link, link_live}
 use Rattle.links.proofs.Haves.{slot_having, of_slot}
 
 pub end_by : {R : Type 0} (side : Side) (l : Link R) (x : Shape) → l.source.0 ≡ x.source → l.target.0 ≡ x.target → end_of side l ≡ hub side x
@@ -20,56 +21,9 @@ pub key_by : {R : Type 0} (side : Side) (l : Link R) (x : Shape) → l.source.0 
 key_by Leaving l x e f = f
 key_by Entering l x e f = e
 
-pub key_in : (side : Side) (x : Shape) (n : ℕ) → x.source < n → x.target < n → key side x < n
-key_in Leaving x n e f = f
-key_in Entering x n e f = e
-
 pub sorted_of : {R : Type 0} (side : Side) (rows : List (LinkRow R)) (heads : List Heads) (count free : ℕ) → Sound rows heads count free → Sorted (view side rows heads) (length heads)
 sorted_of Leaving rows heads count free so = so.leaving
 sorted_of Entering rows heads count free so = so.entering
-
-pub least_lowest : {R : Type 0} (side : Side) (rows : List (LinkRow R)) (heads : List Heads) (p b s : ℕ) → Least (view side rows heads) p b s → Lowest side rows p b (slot_of (length rows) s)
-least_lowest {R} side rows heads p b s least = go (ltb s (length rows)) refl
-  where
-    go : (t : Bool) → ltb s (length rows) ≡ t → Lowest side rows p b (cond t (Some (record { 0 = s })) None)
-    go true e =
-        let i = ltb-true s (length rows) e in
-        let h = least.here i in
-        let l = live_link rows s i h.0 in
-        let k = key_by side l.0 (at rows s) l.2 l.3 in (
-          l.0,
-          (i, l.1, of_slot (linked rows) l.0 s l.1),
-          end_by side l.0 (at rows s) l.2 l.3 ∙ h.1,
-          omega (arith, h.2),
-          λ m q f le.
-              let r = slot_having (linked rows) m q in
-              let j = r.0 in
-              let w = link_live rows j m r.1 in
-              let k' = key_by side m (at rows j) (sym w.2) (sym w.3) in
-              let o = least.least j w.1 (sym (end_by side m (at rows j) (sym w.2) (sym w.3)) ∙ f) (omega arith) in
-              omega (arith, o.1),
-        )
-    go false e =
-        let i = ltb-false s (length rows) e in
-        λ m q f le.
-        let r = slot_having (linked rows) m q in
-        let j = r.0 in
-        let w = link_live rows j m r.1 in
-        let k' = key_by side m (at rows j) (sym w.2) (sym w.3) in
-        let o = least.least j w.1 (sym (end_by side m (at rows j) (sym w.2) (sym w.3)) ∙ f) (omega arith) in
-        omega (arith, o.0)
-
-pub next_lowest : {R : Type 0} (side : Side) (rows : List (LinkRow R)) (heads : List Heads) (count free s : ℕ) → Sound rows heads count free → Next side rows s (slot_of (length rows) (next side (at rows s)))
-next_lowest {R} side rows heads count free s so l q =
-    let w = link_live rows s l q in
-    let e = end_by side l (at rows s) (sym w.2) (sym w.3) in
-    let k = key_by side l (at rows s) (sym w.2) (sym w.3) in
-    let o = (sorted_of side rows heads count free so).later s w.1 in
-    least_lowest side rows heads (end_of side l) (suc (key_of side l)) (next side (at rows s))
-    (subst (λ c. Least (view side rows heads) (end_of side l) (suc c) (next side (at rows s))) (sym k) (subst (λ c. Least (view side rows heads) c (suc (key side (at rows s))) (next side (at rows s))) (sym e) o))
-
-pub held : {R : Type 0} (rows : List (LinkRow R)) (s : ℕ) → Occupied rows s → (s < length rows) × ((at rows s).unused ≡ 0)
-held rows s o = let w = link_live rows s o.0 o.1 in (w.0, w.1)
 
 pub found : {R : Type 0} (rows : List (LinkRow R)) (heads : List Heads) (u v prev s : ℕ) → Gap (view Leaving rows heads) u v prev s → s < length rows → (at rows s).target ≡ v → Found rows u v (Some (record { 0 = s }))
 found rows heads u v prev s g i e =
@@ -86,27 +40,13 @@ not_found rows heads u v prev s g ne j =
     let h = g.high m.0 in
     ne m.0 (omega (arith, m.1))
 
-pub told : {R : Type 0} (rows : List (LinkRow R)) (heads : List Heads) (count free s : ℕ) (x : LinkRow R) → Sound rows heads count free → s < length rows → x ≡ get_or rows s x →
-    Told rows (length heads) s (record { source = x.source; target = x.target; passage = x.passage })
-told rows heads count free s x so i e l q =
-    let w = link_live rows s l q in
-    let z = link_by_live x.unused (record { source = x.source; target = x.target; passage = x.passage }) l (sym (linked_read rows s x i e) ∙ q) in
-    let n = so.inside s w.1 in
-    (z.1, omega (arith, w.2, n.0), omega (arith, w.3, n.1))
+-- the slot is found where its link leads to v
+pub found_if : {R : Type 0} (rows : List (LinkRow R)) (heads : List Heads) (u v prev : ℕ) (s : Slot) (k : ℕ) (b : Bool) →
+    Gap (view Leaving rows heads) u v prev s.0 → s.0 < length rows → k ≡ (at rows s.0).target → b ≡ eqb k v → Found rows u v (then_some b s)
+found_if rows heads u v prev s k true g i t e = found rows heads u v prev s.0 g i (sym t ∙ eqb-true k v (sym e))
+found_if rows heads u v prev s k false g i t e = not_found rows heads u v prev s.0 g (λ _ f. both_ways false refl (e ∙ eq-eqb k v (t ∙ f)))
 
--- a walk comes nearer its end
-pub nearer : {R : Type 0} (side : Side) (rows : List (LinkRow R)) (heads : List Heads) (count free : ℕ) (s : Slot) (r : Option Slot) → Sound rows heads count free → Occupied rows s.0 → Next side rows s.0 r → ahead side rows (length heads) r < ahead side rows (length heads) (Some s)
-nearer {R} side rows heads count free s None so o nx =
-    let w = link_live rows s.0 o.0 o.1 in
-    let n = so.inside s.0 w.1 in
-    let k = key_in side (at rows s.0) (length heads) n.0 n.1 in
-    omega arith
-nearer {R} side rows heads count free s (Some s') so o nx =
-    let w = link_live rows s.0 o.0 o.1 in
-    let k = key_by side o.0 (at rows s.0) (sym w.2) (sym w.3) in
-    let y = nx o.0 o.1 in
-    let w' = link_live rows s'.0 y.0 y.1.1 in
-    let k' = key_by side y.0 (at rows s'.0) (sym w'.2) (sym w'.3) in
-    let n = so.inside s'.0 w'.1 in
-    let i = key_in side (at rows s'.0) (length heads) n.0 n.1 in
-    omega (arith, y.3)
+-- whether a link was found is whether there is one
+pub some_leads : {R : Type 0} (xs : List (Link R)) (u v : ℕ) (r : Option (Link R)) → LinkFrom xs u v r → (is_some r ≡ true) ↔ Leads xs u v
+some_leads xs u v None none = (λ q. absurd (both_ways false refl q), λ j. absurd (none j))
+some_leads xs u v (Some l) f = (λ _. (l, f.0, f.1, f.2), λ _. refl)

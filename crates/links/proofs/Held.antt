@@ -1,35 +1,46 @@
 -- Slots and links. Assumes nothing.
 use Rattle.std.proofs.Common.{◌≡◌, ℕ, zero, suc, ◌<◌, ◌≤◌, List, [], ◌∷◌, length, get_or, set, Some, None, Option, sym, refl, ap, ◌∙◌, ⊎_elim, arith}
+use Rattle.std.specs.List.{slice_get}
 use Rattle.std.proofs.lemmas.Bool.{cases_lt}
 use Rattle.links.specs.declared.row.LinkRow.{LinkRow}
+use Rattle.links.specs.declared.row.LinkRow.TheVariants.{Used, Unused}
 use Rattle.links.specs.declared.row.Link.{Link}
-use Rattle.links.specs.Table.{Shape, shape, at, link_by, as_link, link_at, somes}
+use Rattle.links.specs.Table.{Shape, shape, at, as_link, link_at, somes}
+
+pub none_some : {X : Type 0} (x : X) → ◌≡◌ {A = Option X} None (Some x) → ⊥
+none_some x e = let z : ◌≡◌ {A = ℕ} 0 1 = cc in omega arith
 
 pub row_at : {R : Type 0} (rows : List (LinkRow R)) (k : ℕ) → k < length rows → (x : LinkRow R) × (at rows k ≡ shape x) × (link_at rows k ≡ as_link x)
 row_at [] k l = absurd (omega arith)
 row_at (x ∷ rows) zero l = (x, refl, refl)
 row_at (x ∷ rows) (suc k) l = row_at rows k (omega arith)
 
+-- a row that was read
+pub row_got : {R : Type 0} (rows : List (LinkRow R)) (k : ℕ) (x : LinkRow R) → slice_get rows k ≡ Some x → (k < length rows) × (at rows k ≡ shape x) × (link_at rows k ≡ as_link x)
+row_got [] k x e = absurd (none_some x e)
+row_got (y ∷ rows) zero x e = let q : y ≡ x = cc in (omega arith, ap shape q, ap as_link q)
+row_got (y ∷ rows) (suc k) x e = let r = row_got rows k x e in (omega (arith, r.0), r.1, r.2)
+
+-- the link of a row in use
+used : {R : Type 0} (x : LinkRow R) → (shape x).unused ≡ 0 → (l : Link R) × (as_link x ≡ Some l) × (l.source.0 ≡ (shape x).source) × (l.target.0 ≡ (shape x).target)
+used (Used l h) e = (l, refl, refl, refl)
+used (Unused n b) e = absurd (omega arith)
+
+of_used : {R : Type 0} (x : LinkRow R) (l : Link R) → as_link x ≡ Some l → ((shape x).unused ≡ 0) × ((shape x).source ≡ l.source.0) × ((shape x).target ≡ l.target.0)
+of_used (Used m h) l e = let q : m ≡ l = cc in (refl, ap (λ w. w.source.0) q, ap (λ w. w.target.0) q)
+of_used (Unused n b) l e = absurd (none_some l e)
+
+pub unused : {R : Type 0} (x : LinkRow R) → ((shape x).unused ≡ 0 → ⊥) → as_link x ≡ None
+unused (Used l h) d = absurd (d refl)
+unused (Unused n b) d = refl
+
 -- the link of a slot in use
 pub live_link : {R : Type 0} (rows : List (LinkRow R)) (k : ℕ) → k < length rows → (at rows k).unused ≡ 0 →
     (l : Link R) × (link_at rows k ≡ Some l) × (l.source.0 ≡ (at rows k).source) × (l.target.0 ≡ (at rows k).target)
 live_link {R} rows k i d =
     let r = row_at rows k i in
-    let x = r.0 in
-    let l : Link R = record { source = x.source; target = x.target; passage = x.passage } in
-    let z : x.unused ≡ 0 = sym (ap (λ (s : Shape). s.unused) r.1) ∙ d in
-    (l, r.2 ∙ ap (λ n. link_by n l) z, ap (λ (s : Shape). s.source) (sym r.1), ap (λ (s : Shape). s.target) (sym r.1))
-
-pub none_some : {X : Type 0} (x : X) → ◌≡◌ {A = Option X} None (Some x) → ⊥
-none_some x e = let z : ◌≡◌ {A = ℕ} 0 1 = cc in omega arith
-
-pub link_by_live : {R : Type 0} (d : ℕ) (x l : Link R) → link_by d x ≡ Some l → (d ≡ 0) × (x ≡ l)
-link_by_live zero x l e = (refl, cc)
-link_by_live (suc d) x l e = absurd (none_some l e)
-
-pub link_by_dead : {R : Type 0} (d : ℕ) (x : Link R) → (d ≡ 0 → ⊥) → link_by d x ≡ None
-link_by_dead zero x ne = absurd (ne refl)
-link_by_dead (suc d) x ne = refl
+    let u = used r.0 (sym (ap (λ (s : Shape). s.unused) r.1) ∙ d) in
+    (u.0, r.2 ∙ u.1, u.2 ∙ ap (λ (s : Shape). s.source) (sym r.1), u.3 ∙ ap (λ (s : Shape). s.target) (sym r.1))
 
 past_none : {R : Type 0} (rows : List (LinkRow R)) (k : ℕ) → length rows ≤ k → link_at rows k ≡ None
 past_none [] k l = refl
@@ -42,16 +53,14 @@ pub link_live : {R : Type 0} (rows : List (LinkRow R)) (k : ℕ) (l : Link R) �
 link_live {R} rows k l e =
     let i : k < length rows = ⊎_elim {C = k < length rows} (λ i. i) (λ ge. absurd (none_some l (sym (past_none rows k ge) ∙ e))) (cases_lt k (length rows)) in
     let r = row_at rows k i in
-    let x = r.0 in
-    let b : Link R = record { source = x.source; target = x.target; passage = x.passage } in
-    let z = link_by_live x.unused b l (sym r.2 ∙ e) in
-    (i, ap (λ (s : Shape). s.unused) r.1 ∙ z.0, ap (λ (s : Shape). s.source) r.1 ∙ ap (λ (m : Link R). m.source.0) z.1, ap (λ (s : Shape). s.target) r.1 ∙ ap (λ (m : Link R). m.target.0) z.1)
+    let u = of_used r.0 l (sym r.2 ∙ e) in
+    (i, ap (λ (s : Shape). s.unused) r.1 ∙ u.0, ap (λ (s : Shape). s.source) r.1 ∙ u.1, ap (λ (s : Shape). s.target) r.1 ∙ u.2)
 
 pub dead_none : {R : Type 0} (rows : List (LinkRow R)) (k : ℕ) → ((at rows k).unused ≡ 0 → ⊥) → link_at rows k ≡ None
 dead_none {R} rows k d = ⊎_elim {C = link_at rows k ≡ None}
     (λ i.
     let r = row_at rows k i in
-    r.2 ∙ link_by_dead r.0.unused _ (λ z. d (ap (λ (s : Shape). s.unused) r.1 ∙ z)))
+    r.2 ∙ unused r.0 (λ z. d (ap (λ (s : Shape). s.unused) r.1 ∙ z)))
     (λ ge. past_none rows k ge)
     (cases_lt k (length rows))
 

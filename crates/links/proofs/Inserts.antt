@@ -5,6 +5,7 @@ use Rattle.std.proofs.lemmas.List.{map-set}
 use Rattle.std.proofs.lemmas.Bool.{cases_eq}
 use Rattle.common.specs.declared.number.PlaceNumber.{PlaceNumber}
 use Rattle.links.specs.declared.row.LinkRow.{LinkRow}
+use Rattle.links.specs.declared.row.LinkRow.TheVariants.{Used}
 use Rattle.links.specs.declared.row.Heads.{Heads}
 use Rattle.links.specs.declared.row.Side.TheVariants.{Leaving, Entering}
 use Rattle.links.specs.Threads.{Gap, Single, Sorted}
@@ -23,7 +24,7 @@ pub top_row : {R : Type 0} (rows : List (LinkRow R)) (heads : List Heads) (count
 top_row rows heads count free so room = let few : count < length rows = omega (arith, so.counted) in (few, (so.unused.top few).0)
 
 abbrev pub fresh_row : {R : Type 0} → PlaceNumber → PlaceNumber → ℕ → ℕ → R → LinkRow R
-fresh_row u v x y t = record { unused = 0; source = u; target = v; leaving = record { 0 = x }; entering = record { 0 = y }; passage = t }
+fresh_row u v x y t = Used (link u v t) (record { leaving = record { 0 = x }; entering = record { 0 = y } })
 
 module _ {R : Type 0} (rows b c : List (LinkRow R)) (heads hb hc : List Heads) (count s : ℕ) (u v : PlaceNumber) (pa aa pb ab : ℕ) (t : R)
     (so : Sound rows heads count s) (lu : u.0 < length heads) (lv : v.0 < length heads) (room : count < length rows) (free : Leads (links rows) u.0 v.0 → ⊥)

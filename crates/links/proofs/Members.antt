@@ -1,19 +1,18 @@
 -- What a call makes of the links, from what it makes of the slots. Assumes nothing.
 use Rattle.std.proofs.Common.{◌≡◌, ℕ, zero, suc, ◌+◌, ◌<◌, Bool, true, false, cond, not, ◌⊎◌, ◌↔◌, List, [], ◌∷◌, length, get_or, set, Some, None, filter, Option, sym, refl, ap, ◌∙◌, subst, inl, inr, ⊎_elim, arith, length-set, get_or-set_other, get_or-set_same}
 use lib.ListN.{length-map}
-use Rattle.std.proofs.lemmas.Bool.{cases_eq, cases_Bool, cond-true, cond-false}
-use Rattle.std.proofs.lemmas.List.Filters.{length-filter_both}
+use Rattle.std.proofs.lemmas.Bool.{cases_eq, cond-true, cond-false}
 use Rattle.std.specs.List.{ContainsAt as Has}
 use Rattle.links.specs.declared.row.LinkRow.{LinkRow}
 use Rattle.links.specs.declared.row.Heads.{Heads}
 use Rattle.links.specs.declared.row.Link.{Link}
 use Rattle.links.specs.declared.row.Slot.{Slot}
-use Rattle.links.specs.Table.{link_at, linked, somes, links, Sound, Taken, Put, Found, Leads, Without, as_link}
-use Rattle.links.specs.Links.{AsMany, joins, enters, Gained, Lost, Shut}
-use Rattle.links.proofs.Held.{link_live, none_some}
+use Rattle.links.specs.Table.{link_at, linked, somes, links, Sound, Taken, Put, Found, Leads, as_link}
+use Rattle.links.specs.Links.{AsMany, joins, Gained, Lost}
+use Rattle.links.proofs.Held.{link_live, none_some, somes_take}
 use Rattle.paths.proofs.Lists.{has_kept}
 use Rattle.links.proofs.Haves.{slot_having, of_slot}
-use Rattle.links.proofs.Joins.{joins_since, not_joins, not_enters}
+use Rattle.links.proofs.Joins.{joins_since, not_joins}
 use Rattle.links.proofs.Clears.{taken_same, taken_other}
 
 -- one more, put in anywhere, counts as one more put in first
@@ -91,16 +90,6 @@ module _ {R : Type 0} (xs ys : List (Link R)) where
         number = λ test. ap (λ (zs : List (Link R)). length (filter test zs)) e;
       }
 
-  pub kept_shut : (p : ℕ) → ys ≡ filter (λ m. not (enters p m)) xs → Shut xs ys p
-  kept_shut p e =
-      record {
-        members = kept_members (λ m. not (enters p m)) (λ m. m.target.0 ≡ p → ⊥) (λ m. not_enters m p) xs ys e;
-        number = λ test. ap (λ (zs : List (Link R)). length (filter test zs)) e;
-      }
-
-  pub kept_number : (p : ℕ) → ys ≡ filter (λ m. not (enters p m)) xs → length ys + length (filter (enters p) xs) ≡ length xs
-  kept_number p e = let a = length-filter_both (enters p) (λ m. not (enters p m)) (λ m. refl) xs in let b = ap length e in omega arith
-
 -- where no link leads from u to v all pass
 pub absent_kept : {R : Type 0} (rows : List (LinkRow R)) (u v : ℕ) → (Leads (links rows) u v → ⊥) → links rows ≡ filter (λ m. not (joins u v m)) (links rows)
 absent_kept {R} rows u v none =
@@ -121,19 +110,6 @@ taken_kept {R} rows rows' heads count free u v s so f t =
     ne (so.single k s.0 x.1 w.1 (x.2 ∙ a ∙ sym f.2 ∙ sym w.2) (x.3 ∙ b ∙ sym f.3 ∙ sym w.3)))))
     (cases_eq k s.0))
 
-pub without_kept : {R : Type 0} (rows rows' : List (LinkRow R)) (p : ℕ) → length rows' ≡ length rows → Without rows rows' p → links rows' ≡ filter (λ m. not (enters p m)) (links rows)
-without_kept {R} rows rows' p len w =
-    sieved (λ m. not (enters p m)) (linked rows) (linked rows') (length-map rows' as_link ∙ len ∙ sym (length-map rows as_link)) (λ k. at_slot k (link_at rows' k) refl)
-  where
-    gone : (k : ℕ) → link_at rows' k ≡ None → (o : Option (Link R)) → link_at rows k ≡ o → sieve (λ m. not (enters p m)) o ≡ None
-    gone k e' None e = refl
-    gone k e' (Some m) e = cond-false (not (enters p m)) (Some m) None (⊎_elim {C = not (enters p m) ≡ false}
-        (λ t. absurd (none_some m (sym e' ∙ (w k m).1 (e, (not_enters m p).0 t))))
-        (λ f. f)
-        (cases_Bool (not (enters p m))))
-
-    at_slot : (k : ℕ) (o' : Option (Link R)) → link_at rows' k ≡ o' → link_at rows' k ≡ sieve (λ m. not (enters p m)) (link_at rows k)
-    at_slot k None e' = e' ∙ sym (gone k e' (link_at rows k) refl)
-    at_slot k (Some m) e' =
-        let q = (w k m).0 e' in
-        e' ∙ sym (ap (sieve (λ m. not (enters p m))) q.0 ∙ cond-true (not (enters p m)) (Some m) None ((not_enters m p).1 q.1))
+-- one link fewer
+pub taken_fewer : {R : Type 0} (rows rows' : List (LinkRow R)) (s : ℕ) (l : Link R) → link_at rows s ≡ Some l → Taken rows rows' s → length (links rows') + 1 ≡ length (links rows)
+taken_fewer rows rows' s l e t = let f = somes_take (linked rows) s l e in let g = ap (λ os. length (somes os)) t.taken in omega arith

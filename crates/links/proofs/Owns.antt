@@ -54,7 +54,7 @@ bounded side rows heads k d = ⊎_elim {C = k < length rows} (λ l. l) (λ ge. a
 
 -- a row written over an unused one, then its thread led to it
 pub own_added : {R : Type 0} (side : Side) (rows rows' : List (LinkRow R)) (heads heads' : List Heads) (prev p x s to : ℕ) (y : LinkRow R) →
-    length rows' ≡ length rows → s < length rows → ((at rows s).unused ≡ 0 → ⊥) → y.unused ≡ 0 → hub side (shape y) ≡ p → key side (shape y) ≡ x → next side (shape y) ≡ to →
+    length rows' ≡ length rows → s < length rows → ((at rows s).unused ≡ 0 → ⊥) → (shape y).unused ≡ 0 → hub side (shape y) ≡ p → key side (shape y) ≡ x → next side (shape y) ≡ to →
     Gap (view side rows heads) p x prev to → Own side (set rows s y) rows' heads heads' prev p s → Added (view side rows heads) (view side rows' heads') p x prev to s
 own_added side rows rows' heads heads' prev p x s to y len l spare live eh ek en gap o =
     let same = at_same rows s y l in
@@ -80,7 +80,7 @@ own_added side rows rows' heads heads' prev p x s to y len l spare live eh ek en
 
 -- a thread led past a row, then the row written over by an unused one
 pub own_dropped : {R : Type 0} (side : Side) (rows rows' : List (LinkRow R)) (heads heads' : List Heads) (prev p s : ℕ) (z : LinkRow R) →
-    length rows' ≡ length rows → (at rows s).unused ≡ 0 → hub side (at rows s) ≡ p → (z.unused ≡ 0 → ⊥) →
+    length rows' ≡ length rows → (at rows s).unused ≡ 0 → hub side (at rows s) ≡ p → ((shape z).unused ≡ 0 → ⊥) →
     Gap (view side rows heads) p (key side (at rows s)) prev s → (prev ≡ s → ⊥) →
     Own side rows rows' heads heads' prev p (next side (at rows s)) → Dropped (view side rows heads) (view side (set rows' s z) heads') p prev s
 own_dropped side rows rows' heads heads' prev p s z len live eh dead gap np o =

@@ -5,13 +5,13 @@ use Rattle.links.specs.declared.row.LinkRow.{LinkRow}
 use Rattle.links.specs.declared.row.Heads.{Heads}
 use Rattle.links.specs.declared.row.Side.TheVariants.{Leaving, Entering}
 use Rattle.links.specs.Threads.{Threads, Gap, Single, Sorted, Bounded}
-use Rattle.links.specs.Table.{Shape, at, view, as_link, linked, somes, links, Spliced, Free, Sound, Taken}
+use Rattle.links.specs.Table.{Shape, shape, at, view, as_link, linked, somes, links, Spliced, Free, Sound, Taken}
 use Rattle.links.proofs.Rows.{at_same}
 use Rattle.links.proofs.Walks.{after_live}
 use Rattle.links.proofs.Drops.{Dropped, dropped_sorted, dropped_single}
 use Rattle.links.proofs.Owns.{Own, own_leaving, own_entering, own_dropped, bounded}
 use Rattle.links.proofs.Spares.{free_push}
-use Rattle.links.proofs.Held.{live_link, somes_take, link_by_dead}
+use Rattle.links.proofs.Held.{live_link, somes_take, unused}
 use Rattle.links.proofs.Inserts.{turned}
 
 -- the way to the key of a slot in use leads to that slot
@@ -36,7 +36,7 @@ module _ {R : Type 0} (rows b c : List (LinkRow R)) (heads hb hc : List Heads) (
     (gb' : Gap (view Entering rows heads) (at rows s).target (at rows s).source pb rb)
     (eb : length b ≡ length rows) (ec : length c ≡ length b) (ehb : length hb ≡ length heads) (ehc : length hc ≡ length hb)
     (sa : Spliced Leaving rows b heads hb pa (at rows s).source (at rows s).leaving) (sb : Spliced Entering b c hb hc pb (at rows s).target (at rows s).entering)
-    (zu : z.unused ≡ length rows - (count - 1)) (zl : z.leaving.0 ≡ free) where
+    (zu : (shape z).unused ≡ length rows - (count - 1)) (zl : (shape z).leaving ≡ free) where
   one_b : Single (view Entering rows heads)
   one_b = turned rows heads so.single
 
@@ -52,7 +52,7 @@ module _ {R : Type 0} (rows b c : List (LinkRow R)) (heads hb hc : List Heads) (
   some_row : 0 < length rows
   some_row = omega (arith, inside)
 
-  z_dead : z.unused ≡ 0 → ⊥
+  z_dead : (shape z).unused ≡ 0 → ⊥
   z_dead e = let w = so.unused.within in let h = some_row in omega arith
 
   own_a : Own Leaving rows c heads hc pa (at rows s).source (at rows s).leaving
@@ -68,7 +68,7 @@ module _ {R : Type 0} (rows b c : List (LinkRow R)) (heads hb hc : List Heads) (
   drop_b = own_dropped Entering rows c heads hc pb (at rows s).target s z (ec ∙ eb) live refl z_dead gb (not_prev (view Entering rows heads) (at rows s).target pb s (bounded Entering rows heads) live gb) own_b
 
   take_links : linked (set c s z) ≡ set (linked rows) s None
-  take_links = map-set as_link c s z ∙ ap (λ os. set os s (as_link z)) (sb.same_links ∙ sa.same_links) ∙ ap (set (linked rows) s) (link_by_dead z.unused _ z_dead)
+  take_links = map-set as_link c s z ∙ ap (λ os. set os s (as_link z)) (sb.same_links ∙ sa.same_links) ∙ ap (set (linked rows) s) (unused z z_dead)
 
   remove_taken : Taken rows (set c s z) s
   remove_taken = record { taken = take_links }

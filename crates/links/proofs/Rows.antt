@@ -2,12 +2,16 @@
 use Rattle.std.proofs.Common.{◌≡◌, ℕ, ◌<◌, ◌≤◌, List, map, length, get_or, set, None, sym, ap, ◌∙◌, subst, ⊎_elim, arith}
 use lib.ListN.{length-map}
 use Rattle.std.proofs.lemmas.Bool.{cases_eq}
-use Rattle.std.proofs.lemmas.List.{get_or-map, get_or_past, map-set, get_or-set_same, get_or-set_other, set-get_or}
+use Rattle.std.proofs.lemmas.List.{get_or-map, get_or_past, get_or_default, map-set, get_or-set_same, get_or-set_other, set-get_or}
 use Rattle.links.specs.declared.row.LinkRow.{LinkRow}
-use Rattle.links.specs.Table.{Shape, shape, past, at, as_link, linked, link_at}
+use Rattle.links.specs.declared.row.Heads.{Heads}
+use Rattle.links.specs.Table.{Shape, shape, past, no_heads, at, as_link, linked, link_at}
 
 pub read : {R : Type 0} (rows : List (LinkRow R)) (k : ℕ) (x : LinkRow R) → k < length rows → x ≡ get_or rows k x → at rows k ≡ shape x
 read rows k x l e = get_or-map shape rows k x past l ∙ ap shape (sym e)
+
+pub head_read : (heads : List Heads) (p : ℕ) (h : Heads) → p < length heads → h ≡ get_or heads p h → h ≡ get_or heads p no_heads
+head_read heads p h l e = e ∙ get_or_default heads p h no_heads l
 
 pub none : {R : Type 0} (rows : List (LinkRow R)) (k : ℕ) → length rows ≤ k → at rows k ≡ past
 none rows k l = get_or_past (map shape rows) k past (rw (length-map rows shape) l)
@@ -28,9 +32,5 @@ field_kept F rows i y l e k = ⊎_elim {C = F (at (set rows i y) k) ≡ F (at ro
     (λ ne. ap F (at_other rows i k y ne))
     (cases_eq k i)
 
-pub linked_read : {R : Type 0} (rows : List (LinkRow R)) (k : ℕ) (x : LinkRow R) → k < length rows → x ≡ get_or rows k x → link_at rows k ≡ as_link x
-linked_read rows k x l e = get_or-map as_link rows k x None l ∙ ap as_link (sym e)
-
-pub linked_kept : {R : Type 0} (rows : List (LinkRow R)) (i : ℕ) (x y : LinkRow R) → i < length rows → x ≡ get_or rows i x → as_link y ≡ as_link x → linked (set rows i y) ≡ linked rows
-linked_kept {R} rows i x y l e f =
-    map-set as_link rows i y ∙ ap (set (linked rows) i) (f ∙ sym (linked_read rows i x l e)) ∙ set-get_or (linked rows) i None
+pub linked_kept : {R : Type 0} (rows : List (LinkRow R)) (i : ℕ) (y : LinkRow R) → as_link y ≡ link_at rows i → linked (set rows i y) ≡ linked rows
+linked_kept {R} rows i y e = map-set as_link rows i y ∙ ap (set (linked rows) i) e ∙ set-get_or (linked rows) i None

@@ -13,8 +13,10 @@ use Rattle.links.specs.declared.row.Link.{Link}
 use Rattle.links.specs.Table.{links, Kept}
 use Rattle.links.specs.Links.{AsMany, Gained, Lost, Shut}
 use Rattle.links.specs.Theory.{arrow, arrows, Alike, Follows}
-use Rattle.links.proofs.Rounds.{one_link, kept_inside}
+use Rattle.links.proofs.Ends.{one_link, inside}
+use Rattle.links.proofs.Props.{opened}
 use Rattle.links.proofs.Joins.{not_joins, not_enters}
+use Rattle.links.proofs.Shuts.{kept_twice}
 
 has_map : {X Y : Type 0} (f : X → Y) (xs : List X) (x : X) → Has xs x → Has (map f xs) (f x)
 has_map f [] x h = absurd (has_none x h)
@@ -49,24 +51,16 @@ one_each : {R P : Type 0} (leads : R → P) (rows : List (LinkRow R)) (heads : L
 one_each {R} leads rows heads tally kept u v t s a b =
     let l = of_leads leads (links rows) u v t a in
     let m = of_leads leads (links rows) u v s b in
-    let same = one_link rows heads tally kept l.0 m.0 l.1 m.1 (l.2 ∙ sym m.2) (l.3 ∙ sym m.3) in
+    let same = one_link rows heads _ _ (opened rows heads tally kept) l.0 m.0 l.1 m.1 (l.2 ∙ sym m.2) (l.3 ∙ sym m.3) in
     sym l.4 ∙ ap (λ (x : Link R). leads x.passage) same ∙ m.4
 
--- what passes after a map; what passes two tests
+-- what passes after a map
 kept_map : {X Y : Type 0} (f : X → Y) (test : Y → Bool) (xs : List X) → length (filter test (map f xs)) ≡ length (filter (λ x. test (f x)) xs)
 kept_map f test [] = refl
 kept_map {X} {Y} f test (x ∷ xs) = go (test (f x)) (filter test (map f xs)) (filter (λ x. test (f x)) xs) (kept_map f test xs)
   where
     go : (b : Bool) (ys : List Y) (zs : List X) → length ys ≡ length zs → length (cond b (f x ∷ ys) ys) ≡ length (cond b (x ∷ zs) zs)
     go true ys zs e = ap suc e
-    go false ys zs e = e
-
-kept_twice : {X : Type 0} (keep test : X → Bool) (xs : List X) → filter test (filter keep xs) ≡ filter (λ x. keep x && test x) xs
-kept_twice keep test [] = refl
-kept_twice {X} keep test (x ∷ xs) = go (keep x) (filter keep xs) (filter (λ x. keep x && test x) xs) (kept_twice keep test xs)
-  where
-    go : (b : Bool) (ys zs : List X) → filter test ys ≡ zs → filter test (cond b (x ∷ ys) ys) ≡ cond (b && test x) (x ∷ zs) zs
-    go true ys zs e = ap (λ (l : List X). cond (test x) (x ∷ l) l) e
     go false ys zs e = e
 
 -- links that pass a test, kept on both sides
@@ -134,7 +128,7 @@ follows R V P =
     record {
       members = λ leads xs u v t. (of_leads leads xs u v t, to_leads leads xs u v t);
       one_each = one_each;
-      inside = kept_inside;
+      inside = λ rows heads tally kept. inside rows heads _ _ (opened rows heads tally kept);
       empty = λ leads. record { members = λ u v t. (λ h. h, λ h. h); number = λ test. refl };
       gains = λ k g leads xs ys l gain alike. gains k g leads xs ys alike l gain;
       loses = λ k g leads xs ys u v lost alike. loses k g leads xs ys alike u v lost;

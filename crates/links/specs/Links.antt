@@ -1,11 +1,7 @@
 -- The links that a table holds, and what the calls make of them: all that is said of a table above this crate. The order in which links stand is free. Assumes nothing.
-use Rattle.std.specs.Prelude.{◌≡◌, ℕ, ◌<◌, Bool, not, ◌&&◌, ◌⊎◌, ◌↔◌, List, ◌∷◌, length, filter, Option, ◌==◌, ◌≢◌}
+use Rattle.std.specs.Prelude.{◌≡◌, ℕ, Bool, not, ◌&&◌, ◌⊎◌, ◌↔◌, List, ◌∷◌, length, filter, ◌==◌, ◌≢◌}
 use Rattle.std.specs.List.{ContainsAt as Has}
-use Rattle.links.specs.declared.row.Slot.{Slot}
-use Rattle.links.specs.declared.row.LinkRow.{LinkRow}
 use Rattle.links.specs.declared.row.Link.{Link}
-use Rattle.links.specs.declared.row.Side.{Side}
-use Rattle.links.specs.Table.{links, end_of, key_of, Lowest}
 
 -- as many of xs as of ys pass any test
 abbrev pub AsMany : {X : Type 0} → List X → List X → Type 0
@@ -32,7 +28,3 @@ pub record Lost {R : Type 0} (xs ys : List (Link R)) (u v : ℕ) : Type 0 where
 pub record Shut {R : Type 0} (xs ys : List (Link R)) (p : ℕ) : Type 0 where
   pub members : (m : Link R) → Has ys m ↔ (Has xs m × (m.target.0 ≢ p))
   pub number : AsMany ys (filter (λ m. not (enters p m)) xs)
-
--- a walk of the links at p: P holds of those passed, and r is the slot of the next
-abbrev pub Walked : {R : Type 0} → Side → List (LinkRow R) → ℕ → (Link R → Type 0) → Option Slot → Type 0
-Walked {R} side rows p P r = (b : ℕ) × Lowest side rows p b r × ((m : Link R) → Has (links rows) m → end_of side m ≡ p → key_of side m < b → P m)

@@ -1,9 +1,10 @@
 -- What the rows of a link table say. Assumes nothing.
-use Rattle.std.specs.Prelude.{◌≡◌, ℕ, zero, suc, ◌+◌, ◌-◌, ◌<◌, ◌≤◌, cond, ◌↔◌, List, [], ◌∷◌, map, length, Some, None, Option, ◌≢◌, nat_lt, slice_index_or, slice_set}
+use Rattle.std.specs.Prelude.{◌≡◌, ℕ, suc, ◌-◌, ◌<◌, ◌≤◌, List, [], ◌∷◌, map, length, Some, None, Option, ◌≢◌, slice_index_or, slice_set}
 use Rattle.std.specs.List.{ContainsAt as Has}
 use Rattle.common.specs.declared.number.PlaceNumber.{PlaceNumber}
 use Rattle.links.specs.declared.row.Slot.{Slot}
 use Rattle.links.specs.declared.row.LinkRow.{LinkRow}
+use Rattle.links.specs.declared.row.LinkRow.TheVariants.{Used, Unused}
 use Rattle.links.specs.declared.row.Heads.{Heads}
 use Rattle.links.specs.declared.row.Tally.{Tally}
 use Rattle.links.specs.declared.row.Link.{Link}
@@ -11,7 +12,7 @@ use Rattle.links.specs.declared.row.Side.{Side}
 use Rattle.links.specs.declared.row.Side.TheVariants.{Leaving, Entering}
 use Rattle.links.specs.Threads.{Threads, Sorted, Single}
 
--- a row without its passage, in numbers
+-- a row without its passage, in numbers: it is a link where `unused` is 0, and else `unused` rows lie from it down
 pub record Shape : Type 0 where
   pub unused : ℕ
   pub source : ℕ
@@ -20,7 +21,8 @@ pub record Shape : Type 0 where
   pub entering : ℕ
 
 abbrev pub shape : {R : Type 0} → LinkRow R → Shape
-shape r = record { unused = r.unused; source = r.source.0; target = r.target.0; leaving = r.leaving.0; entering = r.entering.0 }
+shape (Used l h) = record { unused = 0; source = l.source.0; target = l.target.0; leaving = h.leaving.0; entering = h.entering.0 }
+shape (Unused under below) = record { unused = suc under; source = 0; target = 0; leaving = below.0; entering = 0 }
 
 -- what stands past the table: no link
 abbrev pub past : Shape
@@ -61,12 +63,9 @@ view side rows heads = record {
   head = λ p. head_of side (slice_index_or heads p no_heads);
 }
 
-abbrev pub link_by : {R : Type 0} → ℕ → Link R → Option (Link R)
-link_by zero l = Some l
-link_by (suc d) l = None
-
 abbrev pub as_link : {R : Type 0} → LinkRow R → Option (Link R)
-as_link r = link_by r.unused (record { source = r.source; target = r.target; passage = r.passage })
+as_link (Used l h) = Some l
+as_link (Unused under below) = None
 
 -- the table, slot by slot
 abbrev pub linked : {R : Type 0} → List (LinkRow R) → List (Option (Link R))
@@ -88,11 +87,7 @@ abbrev pub other_side : Side → Side
 other_side Leaving = Entering
 other_side Entering = Leaving
 
--- a row, or a place's heads, with another slot coming next on one side
-abbrev pub with_next : {R : Type 0} → Side → LinkRow R → Slot → LinkRow R
-with_next Leaving r s = record { unused = r.unused; source = r.source; target = r.target; leaving = s; entering = r.entering; passage = r.passage }
-with_next Entering r s = record { unused = r.unused; source = r.source; target = r.target; leaving = r.leaving; entering = s; passage = r.passage }
-
+-- heads with another slot coming first on one side
 abbrev pub with_head : Side → Heads → Slot → Heads
 with_head Leaving h s = record { leaving = s; entering = h.entering }
 with_head Entering h s = record { leaving = h.leaving; entering = s }
@@ -130,6 +125,11 @@ pub record Sound {R : Type 0} (rows : List (LinkRow R)) (heads : List Heads) (co
 abbrev pub Leads : {R : Type 0} → List (Link R) → ℕ → ℕ → Type 0
 Leads {R} xs u v = (m : Link R) × Has xs m × (m.source.0 ≡ u) × (m.target.0 ≡ v)
 
+-- the link from u to v, if there is one
+abbrev pub LinkFrom : {R : Type 0} → List (Link R) → ℕ → ℕ → Option (Link R) → Type 0
+LinkFrom xs u v None = Leads xs u v → ⊥
+LinkFrom xs u v (Some l) = Has xs l × (l.source.0 ≡ u) × (l.target.0 ≡ v)
+
 -- rows' holds one link more, in the slot s, which held none
 pub record Put {R : Type 0} (rows rows' : List (LinkRow R)) (s : ℕ) (l : Link R) : Type 0 where
   pub slot : s < length rows
@@ -160,51 +160,22 @@ key_of Entering l = l.source.0
 abbrev pub Holds : {R : Type 0} → List (LinkRow R) → ℕ → Link R → Type 0
 Holds rows s l = (s < length rows) × (link_at rows s ≡ Some l) × Has (links rows) l
 
--- the slot of the link at p with the least key from b on, if there is one
-abbrev pub Lowest : {R : Type 0} → Side → List (LinkRow R) → ℕ → ℕ → Option Slot → Type 0
-Lowest {R} side rows p b None = (m : Link R) → Has (links rows) m → end_of side m ≡ p → b ≤ key_of side m → ⊥
-Lowest {R} side rows p b (Some s) =
-    (l : Link R) × Holds rows s.0 l × (end_of side l ≡ p) × (b ≤ key_of side l) ×
-    ((m : Link R) → Has (links rows) m → end_of side m ≡ p → b ≤ key_of side m → key_of side l ≤ key_of side m)
-
--- the next one after the link in the slot s
-abbrev pub Next : {R : Type 0} → Side → List (LinkRow R) → ℕ → Option Slot → Type 0
-Next {R} side rows s r = (l : Link R) → link_at rows s ≡ Some l → Lowest side rows (end_of side l) (suc (key_of side l)) r
-
 -- the slot of the link from u to v, if there is one
 abbrev pub Found : {R : Type 0} → List (LinkRow R) → ℕ → ℕ → Option Slot → Type 0
 Found {R} rows u v None = Leads (links rows) u v → ⊥
 Found {R} rows u v (Some s) = (l : Link R) × Holds rows s.0 l × (l.source.0 ≡ u) × (l.target.0 ≡ v)
 
--- s, if it is one of n slots
-abbrev pub slot_of : ℕ → ℕ → Option Slot
-slot_of n s = cond (nat_lt s n) (Some (record { 0 = s })) None
+-- the slot s holds a link; it is unused
+abbrev pub IsUsed : {R : Type 0} → List (LinkRow R) → ℕ → Type 0
+IsUsed rows s = (s < length rows) × ((at rows s).unused ≡ 0)
 
--- rows below n lie on one another, each on the one before
-abbrev pub Stacked : {R : Type 0} → List (LinkRow R) → ℕ → Type 0
-Stacked rows n = (k : ℕ) → k < n → ((at rows k).unused ≡ k + 1) × ((at rows k).leaving ≡ k - 1)
+abbrev pub IsUnused : {R : Type 0} → List (LinkRow R) → ℕ → Type 0
+IsUnused rows s = (s < length rows) × ((at rows s).unused ≢ 0)
 
--- no link hangs at the places below n
-abbrev pub Headless : List Heads → ℕ → ℕ → Type 0
-Headless heads none n = (p : ℕ) → p < n → slice_index_or heads p no_heads ≡ record { leaving = record { 0 = none }; entering = record { 0 = none } }
-
--- rows' holds the links of rows that do not lead to p, each in its slot
-abbrev pub Without : {R : Type 0} → List (LinkRow R) → List (LinkRow R) → ℕ → Type 0
-Without {R} rows rows' p = (k : ℕ) (l : Link R) → (link_at rows' k ≡ Some l) ↔ ((link_at rows k ≡ Some l) × (l.target.0 ≢ p))
-
--- rows' holds links of rows, each in its slot, and all that do not lead to p
-pub record Thinned {R : Type 0} (rows rows' : List (LinkRow R)) (p : ℕ) : Type 0 where
-  pub some : (k : ℕ) (l : Link R) → link_at rows' k ≡ Some l → link_at rows k ≡ Some l
-  pub all : (k : ℕ) (l : Link R) → link_at rows k ≡ Some l → (l.target.0 ≢ p) → link_at rows' k ≡ Some l
-
--- how far a walk of the links at a place can still go: it falls from a slot to the next
-abbrev pub ahead : {R : Type 0} → Side → List (LinkRow R) → ℕ → Option Slot → ℕ
-ahead side rows n None = 0
-ahead side rows n (Some s) = suc n - key side (at rows s.0)
-
--- the link in the slot s, between places below n
-abbrev pub Told : {R : Type 0} → List (LinkRow R) → ℕ → ℕ → Link R → Type 0
-Told {R} rows n s r = (l : Link R) → link_at rows s ≡ Some l → (r ≡ l) × (l.source.0 < n) × (l.target.0 < n)
+-- the number of a slot, or n where there is none
+abbrev pub number_or : ℕ → Option Slot → ℕ
+number_or n None = n
+number_or n (Some s) = s.0
 
 -- a link table in order, as a fact that a struct can hold
 abbrev pub Kept : {R : Type 0} → List (LinkRow R) → List Heads → Tally → Type 0

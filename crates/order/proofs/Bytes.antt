@@ -1,5 +1,5 @@
 -- The mark bytes. Assumes nothing.
-use Rattle.std.proofs.Common.{◌≡◌, ℕ, ◌<◌, true, eqb, List, length, get_or, sym, ap, ◌∙◌, ⊎_elim, ext_get_or, eq-eqb}
+use Rattle.std.proofs.Common.{◌≡◌, ℕ, ◌<◌, true, eqb, List, length, get_or, sym, ap, ◌∙◌, subst, ⊎_elim, ext_get_or, eq-eqb}
 use Rattle.std.proofs.lemmas.List.{get_or-take}
 use Rattle.std.proofs.lemmas.Bool.{cases_lt}
 use Rattle.order.specs.Tables.{is_set, marked_in}
@@ -16,3 +16,7 @@ pub restored : (n : ℕ) (xs ms ys : List ℕ) → Clean n xs → Beyond n xs ms
 restored n xs ms ys clean out len cl =
     ext_get_or 0 ys xs (cl.long ∙ len)
     (λ k h. ⊎_elim {C = get_or ys k 0 ≡ get_or xs k 0} (λ lt. cl.clean k lt ∙ sym (clean k lt)) (λ ge. cl.beyond k ge ∙ out k ge) (cases_lt k n))
+
+-- the same, where the guard's own number of places is n
+pub restored_by : (m n : ℕ) (xs ms ys : List ℕ) → m ≡ n → Clean n xs → Beyond n xs ms → length ms ≡ length xs → Cleared m ms ys → ys ≡ xs
+restored_by m n xs ms ys e clean out len cl = restored n xs ms ys clean out len (subst (λ k. Cleared k ms ys) e cl)

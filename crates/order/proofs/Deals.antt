@@ -1,5 +1,5 @@
 -- The step of a walk that gives out ranks. Assumes nothing.
-use Rattle.std.proofs.Common.{◌≡◌, ℕ, ◌+◌, ◌-◌, ◌<◌, ◌≤◌, Bool, true, false, cond, not, ◌≢◌, List, [], ◌∷◌, ◌++◌, map, length, get_or, take, drop, set, filter, sym, refl, ap, ◌∙◌, subst, ⊎_elim, arith, length-drop, length-take, get_or-drop, get_or-set_other, get_or-take, get_or-set_same}
+use Rattle.std.proofs.Common.{◌≡◌, ℕ, zero, suc, ◌+◌, ◌-◌, ◌<◌, ◌≤◌, Bool, true, false, cond, not, ◌≢◌, List, [], ◌∷◌, ◌++◌, map, length, get_or, take, drop, set, filter, sym, refl, ap, ◌∙◌, subst, ⊎_elim, arith, length-drop, length-take, get_or-drop, get_or-set_other, get_or-take, get_or-set_same}
 use mathlib.Core.Bool.{beq}
 use lib.ListN.{length-map}
 use Rattle.std.specs.List.{ContainsAt as Has}
@@ -105,6 +105,28 @@ place_put places r x h =
 
 pub place_kept : (places : List PlaceNumber) (r q : ℕ) (x : PlaceNumber) → q ≢ r → place_in (set places r x) q ≡ place_in places q
 place_kept places r q x ne = ap (λ (l : List ℕ). get_or l q 0) (map-set place_number places r x) ∙ get_or-set_other (map place_number places) r q x.0 0 ne
+
+-- a table of which the first n entries were written has the others as they were
+pub rest_kept : {A : Type 0} (f : A → ℕ) (xs all : List A) (n p : ℕ) → length xs ≡ n → n ≤ length all → n ≤ p → get_or (map f (xs ++ drop n all)) p 0 ≡ get_or (map f all) p 0
+rest_kept f [] all zero p e l h = refl
+rest_kept f [] all (suc n) p e l h = absurd (omega arith)
+rest_kept f (x ∷ xs) all zero p e l h = absurd (omega arith)
+rest_kept f (x ∷ xs) [] (suc n) p e l h = absurd (omega arith)
+rest_kept f (x ∷ xs) (y ∷ ys) (suc n) zero e l h = absurd (omega arith)
+rest_kept f (x ∷ xs) (y ∷ ys) (suc n) (suc p) e l h = rest_kept f xs ys n p (omega arith) (omega arith) (omega arith)
+
+-- the places at the ranks from low to high
+pub ranged : (places : List PlaceNumber) (low high : ℕ) → high < length places → length (take (high + 1 - low) (drop low places)) ≡ high + 1 - low
+ranged places low high h =
+    let a = length-take (high + 1 - low) (drop low places) in
+    let b = length-drop low places in
+    omega arith
+
+pub in_range : (places : List PlaceNumber) (low high k : ℕ) → high < length places → k < length (take (high + 1 - low) (drop low places)) →
+    (low + k < high + 1) × (get_or (take (high + 1 - low) (drop low places)) k (record { 0 = 0 }) ≡ get_or places (low + k) (record { 0 = 0 }))
+in_range places low high k h l =
+    let a = ranged places low high h in
+    (omega arith, get_or-take (high + 1 - low) (drop low places) k (record { 0 = 0 }) (omega arith) ∙ get_or-drop low places k (record { 0 = 0 }))
 
 pub order_at : (n : ℕ) (places : List PlaceNumber) (r : ℕ) → r < n → get_or (order_in n places) r 0 ≡ place_in places r
 order_at n places r h = get_or-take n (map place_number places) r 0 h

@@ -9,3 +9,4 @@ pub mod Props
 pub mod Passages
 pub mod Stays
 pub mod Settles
+pub mod Graphs

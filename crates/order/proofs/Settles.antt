@@ -1,10 +1,13 @@
 -- Places that change places until each stands at its rank. Assumes nothing.
-use Rattle.std.proofs.Common.{◌≡◌, ℕ, zero, suc, ◌+◌, ◌<◌, ◌≤◌, Bool, true, false, cond, eqb, ◌≢◌, List, length, set, sym, refl, ap, ◌∙◌, subst, ⊎_elim, arith, length-set, eq-eqb, ne_eqb}
+use Rattle.std.proofs.Common.{◌≡◌, ℕ, zero, suc, ◌+◌, ◌<◌, ◌≤◌, Bool, true, false, cond, eqb, ◌≢◌, List, length, get_or, set, sym, refl, ap, ◌∙◌, subst, ⊎_elim, arith, length-set, eq-eqb, ne_eqb}
+use Rattle.std.specs.List.{SwappedAt}
 use Rattle.std.proofs.lemmas.Bool.{cases_eq}
 use Rattle.common.specs.declared.number.PlaceNumber.{PlaceNumber}
-use Rattle.order.specs.Tables.{place_in}
+use Rattle.common.specs.declared.number.Rank.{Rank}
+use Rattle.order.specs.Tables.{rank_in, place_in}
 use Rattle.order.specs.Sharing.{Shuffled, Settled}
 use Rattle.order.proofs.Deals.{place_put, place_kept}
+use Rattle.order.proofs.Ways.{place_at, rank_at_lem}
 
 -- r and t change places
 abbrev swapped : ℕ → ℕ → ℕ → ℕ
@@ -38,6 +41,12 @@ swap_places places r t p q lr lt ne ep eq =
     (place_kept (set places r q) t r p (λ e. ne (sym e)) ∙ place_put places r q lr ∙ eq ∙ ap (place_in places) (sym (swapped_first r t)))
     (place_put (set places r q) t p (rw length-set lt) ∙ ep ∙ ap (place_in places) (sym (swapped_second r t ne)))
     (λ i a b. place_kept (set places r q) t i p b ∙ place_kept places r i q a ∙ ap (place_in places) (sym (swapped_other r t i a b)))
+
+-- entries that were swapped are places that changed places
+pub swap_is : (xs ys : List PlaceNumber) (r t : ℕ) → SwappedAt xs ys r t → r < length xs → t < length xs → t ≢ r → (i : ℕ) → place_in ys i ≡ place_in xs (swapped r t i)
+swap_is xs ys r t s lr lt ne i =
+    let none : PlaceNumber = record { 0 = 0 } in
+    ap (λ (l : List PlaceNumber). place_in l i) (s.3 none) ∙ swap_places xs r t _ _ lr lt ne (sym (place_at xs r none lr)) (sym (place_at xs t none lt)) i
 
 -- how many of the first k places do not stand at their ranks
 abbrev total : (ℕ → ℕ) → ℕ → ℕ
@@ -137,3 +146,25 @@ module _ (low high : ℕ) (rank old place : ℕ → ℕ) (sh : Shuffled low high
 -- what is done below r is done below any lower rank
 pub settled_at : (low high r k : ℕ) (rank old new : ℕ → ℕ) → k ≤ r → Settled low high r rank old new → Settled low high k rank old new
 settled_at low high r k rank old new le st = record { done = λ i a b. st.done i a (omega arith); from = st.from; below = st.below; above = st.above }
+
+-- one turn of the walk, at the rank r of the window: the place there, and its own rank
+pub record Turn (ranks : List Rank) (order : List PlaceNumber) (low high r : ℕ) : Type 0 where
+  pub here : r < length order
+  pub known : (get_or order r (record { 0 = 0 })).0 < length ranks
+  pub own_is : (get_or ranks (get_or order r (record { 0 = 0 })).0 (record { 0 = 0 })).0 ≡ rank_in ranks (place_in order r)
+  pub within : (low ≤ rank_in ranks (place_in order r)) × (rank_in ranks (place_in order r) ≤ high)
+
+pub turn_at : (ranks : List Rank) (old order : List PlaceNumber) (low high r : ℕ) → high < length order → ((i : ℕ) → i ≤ high → place_in old i < length ranks) →
+    Shuffled low high (rank_in ranks) (place_in order) → Settled low high r (rank_in ranks) (place_in old) (place_in order) → low ≤ r → r ≤ high → Turn ranks order low high r
+turn_at ranks old order low high r few places sh st above within =
+    let none : PlaceNumber = record { 0 = 0 } in
+    let here : r < length order = omega arith in
+    let is : place_in order r ≡ (get_or order r none).0 = place_at order r none here in
+    let f = st.from r above within in
+    let known : (get_or order r none).0 < length ranks = let b = places f.0 f.2 in omega (arith, is, f.3) in
+    record {
+      here = here;
+      known = known;
+      own_is = sym (rank_at_lem ranks _ (record { 0 = 0 }) known) ∙ ap (rank_in ranks) (sym is);
+      within = sh.within r above within;
+    }

@@ -146,3 +146,7 @@ module _ {P : Type 0} (links : List (Arrow P)) (rank : ℕ → ℕ) (up : Topolo
 
       far : (p : ℕ) → n ≤ p → (marked_in n marks p ≡ true) ↔ Met links v (marked_in n marks) p
       far p i = (λ e. absurd (both_ways _ (past n marks p i) e), λ e. absurd (⊎_elim {C = ⊥} (λ f. omega arith) (λ m. let b = (inside m.0 p m.1 m.2).1 in omega arith) e))
+
+-- the entry of the place table at the rank r is the place that has it
+pub order_here : (n : ℕ) (places : List PlaceNumber) (r : ℕ) → r < n → n ≤ length places → (get_or places r (record { 0 = 0 })).0 ≡ get_or (order_in n places) r 0
+order_here n places r h wide = sym (place_at places r (record { 0 = 0 }) (omega arith)) ∙ sym (order_at n places r h)

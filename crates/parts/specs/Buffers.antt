@@ -1,5 +1,5 @@
 -- Writing into a caller's buffer. Assumes nothing.
-use Rattle.std.specs.Prelude.{◌≡◌, ℕ, ◌+◌, ◌<◌, Bool, List, ◌++◌, length, take, drop, Some, None, Option, Result, MatchResult}
+use Rattle.std.specs.Prelude.{◌≡◌, ℕ, ◌+◌, ◌<◌, List, ◌++◌, length, take, drop, Some, None, Option, Result, MatchResult}
 use Rattle.common.specs.declared.refusal.Refusal.{Refusal}
 use Rattle.common.specs.declared.refusal.Refusal.TheVariants.{ShortBuffer}
 
@@ -11,23 +11,10 @@ wrote d at s = take at d ++ (s ++ drop (at + length s) d)
 abbrev pub Put : List ℕ → ℕ → List ℕ → List ℕ → ℕ → Type 0
 Put d at s e end = (end ≡ at + length s) × (e ≡ wrote d at s)
 
--- the same, with whether something stands before what follows
-abbrev pub Puts : List ℕ → ℕ → List ℕ → Bool → List ℕ → ℕ × Bool → Type 0
-Puts d at s b e r = Put d at s e r.0 × (r.1 ≡ b)
-
 -- what is left of a room after n bytes, if they fit
 abbrev pub Left : ℕ → ℕ → Option ℕ → Type 0
 Left room n (Some k) = k + n ≡ room
 Left room n None = room < n
-
--- the same for the bytes of s
-abbrev pub Room : ℕ → List ℕ → Option ℕ → Type 0
-Room room s r = Left room (length s) r
-
--- the same, with whether something stands before what follows
-abbrev pub Rooms : ℕ → List ℕ → Bool → Option (ℕ × Bool) → Type 0
-Rooms room s b (Some v) = (v.0 + length s ≡ room) × (v.1 ≡ b)
-Rooms room s b None = room < length s
 
 -- s stands at the front of the buffer, and its length is answered; a shorter buffer is refused and stays as it was
 abbrev pub Writes : List ℕ → List ℕ → List ℕ → Result ℕ Refusal → Type 0

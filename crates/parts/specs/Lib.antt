@@ -4,3 +4,6 @@ pub mod Parts
 pub mod Buffers
 pub mod Ones
 pub mod PairLaws
+pub mod Sinks
+pub mod Rooms
+pub mod Writers

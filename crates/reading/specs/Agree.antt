@@ -1,6 +1,7 @@
 -- When the answer of a reading function is what the definition reads at a place of the text. Assumes nothing.
 use Rattle.std.specs.Prelude.{◌≡◌, ℕ, ◌+◌, ◌≤◌, List, length, drop, Ok, Err, Result}
-use Rattle.reading.specs.Reading.{Out, ok, bad, Flaw}
+use Rattle.reading.specs.Reading.{Out, ok, bad, Flaw, Read}
+use Rattle.reading.specs.declared.reader.Reader.{Reader}
 use Rattle.reading.specs.declared.fault.Fault.{Fault}
 
 abbrev pub flaw : Fault → Flaw
@@ -14,3 +15,16 @@ fault_of f at = record { layer = f.0; refusal = f.1; at = at }
 abbrev pub Reads : {X Y : Type 0} → List ℕ → ℕ → (X → Y) → Out Y → Result (X × ℕ) Fault → Type 0
 Reads t low means o (Ok v) = (low ≤ v.1) × (v.1 ≤ length t) × (o ≡ ok (means v.0) (drop v.1 t))
 Reads t low means o (Err e) = (low ≤ e.at + 1) × (e.at ≤ length t) × (o ≡ bad (flaw e) (drop e.at t))
+
+-- what the reader has still to read
+abbrev pub rest : Reader → List ℕ
+rest r = drop r.at r.text.now
+
+-- the answer, with the place after it
+abbrev pub placed : {X : Type 0} → Result X Fault → ℕ → Result (X × ℕ) Fault
+placed (Ok v) at = Ok (v, at)
+placed (Err e) at = Err e
+
+-- By the answer, r became s in the same text, and read what the definition reads there; a fault is before the place k bytes on by one byte at most.
+abbrev pub Takes : {X Y : Type 0} → Reader → Reader → ℕ → (X → Y) → Read Y → Result X Fault → Type 0
+Takes r s k means read result = (s.text ≡ r.text) × Reads r.text.now (r.at + k) means (read (rest r)) (placed result s.at)

@@ -3,3 +3,4 @@ pub mod Agree
 pub mod Locality
 pub mod Alikes
 pub mod Items
+pub mod Marks

@@ -133,6 +133,10 @@ day_choice None = refuse range_fault
 abbrev pub days : Piece → Choice ℕ
 days = by_sort not_allowed not_allowed not_allowed not_allowed no_run no_run (λ r. day_choice (day_in r)) not_allowed
 
+-- a space and a date
+abbrev pub dated : Read ℕ
+dated = then (pick spaces) (λ _. pick days)
+
 -- whether the next item is a closing bracket
 abbrev pub ends : Out Piece → Bool
 ends (ok p rest) = by_sort false true false false (λ _. false) (λ _. false) (λ _. false) false p

@@ -15,13 +15,14 @@ pub enum Layer {
 }
 
 // The byte is counted from 0.
-#[derive(Clone, Copy)]
+#[derive(Clone, Copy, PartialEq, Eq, Debug)]
 pub struct Fault {
     pub layer: Layer,
     pub refusal: Refusal,
     pub at: usize,
 }
 
+// Four names for four rules: one function over layer and refusal would let a caller pair them wrongly.
 // A byte or a run that is no item.
 pub(crate) fn no_item(at: usize) -> Fault
     ensures { result ≡ fault_of no_item_fault at }

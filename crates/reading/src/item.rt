@@ -1,17 +1,21 @@
 // Readers of single items.
-ghost use Rattle.std.specs.Prelude.{◌≡◌, ℕ, ◌+◌, ◌≤◌, length, drop};
-ghost use Rattle.std.specs.Str.{bytes_eq};
+ghost use Rattle.std.specs.Prelude.{◌≡◌, ℕ, ◌+◌};
 ghost use Rattle.items.specs.Seen.{seen};
-ghost use Rattle.reading.specs.Reading.{size, item, pick, opens, closes, spaces, breaks, ends};
-ghost use Rattle.reading.specs.Agree.{Reads};
+ghost use Rattle.reading.specs.Reading.{size, item, pick, ends};
+ghost use Rattle.reading.specs.Agree.{Takes, rest};
+ghost use Rattle.reading.specs.Marks.{marked, is_marked};
 
 use super::fault::{Fault, no_item, not_allowed, unfinished};
+use super::reader::Reader;
 use items::{Item, item_at};
 
-pub fn same_bytes(a: &[u8], b: &[u8]) -> bool
-    ensures { result ≡ bytes_eq a.now b.now }
-{
-    a == b
+// An item that is always the same byte.
+#[derive(Clone, Copy, PartialEq, Eq, Debug)]
+pub enum Mark {
+    Open,
+    Close,
+    Space,
+    Newline,
 }
 
 fn item_size(item: &Item) -> usize
@@ -23,79 +27,49 @@ fn item_size(item: &Item) -> usize
     }
 }
 
-// The next item, whichever it is.
-pub fn take_item<'a>(text: &'a [u8], at: usize) -> Result<(Item<'a>, usize), Fault>
-    requires { at ≤ length text.now }
-    ensures { Reads text.now (at + 1) seen (item (drop at text.now)) result }
+fn is_mark(item: &Item, mark: Mark) -> bool
+    ensures { result ≡ is_marked mark (seen item.now) }
 {
-    if at >= text.len() {
-        return Err(unfinished(at));
-    }
-    match item_at(text, at) {
-        Some(i) => {
-            let n = item_size(&i);
-            Ok((i, at + n))
+    matches!(
+        (mark, item),
+        (Mark::Open, Item::Open(_))
+            | (Mark::Close, Item::Close(_))
+            | (Mark::Space, Item::Space(_))
+            | (Mark::Newline, Item::Newline(_))
+    )
+}
+
+impl<'a> Reader<'a> {
+    // The next item, whichever it is. After a fault the reader stands in the same text.
+    pub fn item(&mut self) -> Result<Item<'a>, Fault>
+        ensures { Takes self.old self.new 1 seen item result }
+    {
+        let at = self.at;
+        if at >= self.text.len() {
+            return Err(unfinished(at));
         }
-        None => Err(no_item(at)),
+        let item = item_at(self.text, at).ok_or(no_item(at))?;
+        self.at = at + item_size(&item);
+        Ok(item)
     }
-}
 
-pub fn take_open(text: &[u8], at: usize) -> Result<((), usize), Fault>
-    requires { at ≤ length text.now }
-    ensures { Reads text.now (at + 1) (λ x. x) (pick opens (drop at text.now)) result }
-{
-    let (i, next) = take_item(text, at)?;
-    if let Item::Open(_) = i {
-        Ok(((), next))
-    } else {
-        Err(not_allowed(at))
+    pub fn mark(&mut self, mark: Mark) -> Result<(), Fault>
+        ensures { Takes self.old self.new 1 (λ x. x) (pick (marked mark)) result }
+    {
+        let at = self.at;
+        let item = self.item()?;
+        if is_mark(&item, mark) {
+            Ok(())
+        } else {
+            Err(not_allowed(at))
+        }
     }
-}
 
-pub fn take_close(text: &[u8], at: usize) -> Result<((), usize), Fault>
-    requires { at ≤ length text.now }
-    ensures { Reads text.now (at + 1) (λ x. x) (pick closes (drop at text.now)) result }
-{
-    let (i, next) = take_item(text, at)?;
-    if let Item::Close(_) = i {
-        Ok(((), next))
-    } else {
-        Err(not_allowed(at))
-    }
-}
-
-pub fn take_space(text: &[u8], at: usize) -> Result<((), usize), Fault>
-    requires { at ≤ length text.now }
-    ensures { Reads text.now (at + 1) (λ x. x) (pick spaces (drop at text.now)) result }
-{
-    let (i, next) = take_item(text, at)?;
-    if let Item::Space(_) = i {
-        Ok(((), next))
-    } else {
-        Err(not_allowed(at))
-    }
-}
-
-pub fn take_newline(text: &[u8], at: usize) -> Result<((), usize), Fault>
-    requires { at ≤ length text.now }
-    ensures { Reads text.now (at + 1) (λ x. x) (pick breaks (drop at text.now)) result }
-{
-    let (i, next) = take_item(text, at)?;
-    if let Item::Newline(_) = i {
-        Ok(((), next))
-    } else {
-        Err(not_allowed(at))
-    }
-}
-
-// Whether the next item is a closing bracket.
-pub fn at_close(text: &[u8], at: usize) -> bool
-    requires { at ≤ length text.now }
-    ensures { result ≡ ends (item (drop at text.now)) }
-{
-    match take_item(text, at) {
-        Ok((Item::Close(_), _)) => true,
-        Ok(_) => false,
-        Err(_) => false,
+    // Whether the next item is a closing bracket.
+    pub fn at_close(self) -> bool
+        ensures { result ≡ ends (item (rest self.entry)) }
+    {
+        let mut ahead = self;
+        matches!(ahead.item(), Ok(Item::Close(_)))
     }
 }

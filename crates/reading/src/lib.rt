@@ -1,10 +1,11 @@
-// Reading a text item by item: each reader answers what it read and the place after it, or the first fault.
+// Reading a text item by item: each reader answers what it read, or the first fault, and stands after it.
 #![tactic(auto)]
 
 pub mod fault;
 pub mod item;
+pub mod reader;
 pub mod value;
 
 pub use fault::{Fault, Layer, not_allowed, out_of_range};
-pub use item::{at_close, same_bytes, take_close, take_item, take_newline, take_open, take_space};
-pub use value::{take_day, take_in, take_number};
+pub use item::Mark;
+pub use reader::Reader;

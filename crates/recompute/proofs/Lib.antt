@@ -3,3 +3,4 @@ pub mod Sums
 pub mod Steps
 pub mod Grounds
 pub mod Ends
+pub mod Passing

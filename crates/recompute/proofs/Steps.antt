@@ -12,8 +12,6 @@ use Rattle.paths.specs.Walk.{State, Put, Stepped, Progress}
 use Rattle.paths.proofs.Progress.{stepped}
 use Rattle.kinds.specs.Meanings.{Meaning}
 use Rattle.links.specs.declared.row.Link.{Link}
-use Rattle.links.specs.declared.row.LinkRow.{LinkRow}
-use Rattle.links.specs.Table.{links}
 use Rattle.links.specs.Table as table
 use Rattle.links.proofs.Ties.{leads_of, of_leads}
 use Rattle.order.specs.Tables.{rank_in}
@@ -27,22 +25,22 @@ put_here f p x = cond-true (eqb p p) x (f p) (eq-eqb p p refl)
 pub put_other : (f : ℕ → ℕ) (p x q : ℕ) → (q ≡ p → ⊥) → put f p x q ≡ f q
 put_other f p x q ne = cond-false (eqb q p) x (f q) (ne_eqb q p ne)
 
-module _ {L P R S : Type 0} (m : Meaning L P R S) (laws : Laws m.kind) (n : ℕ) (own : List R) (ranks : List Rank) (rows : List (LinkRow S)) (e : ℕ) (before : List R)
-    (up : Topological (rank_in ranks) (arrows_in m rows)) (inside : Inside n (arrows_in m rows)) (r p : ℕ) (below : p < n) (at : rank_in ranks p ≡ r) (only : (q : ℕ) → q < n → rank_in ranks q ≡ r → q ≡ p) where
+module _ {L P R S : Type 0} (m : Meaning L P R S) (laws : Laws m.kind) (n : ℕ) (own : List R) (ranks : List Rank) (xs : List (Link S)) (e : ℕ) (before : List R)
+    (up : Topological (rank_in ranks) (arrows_in m xs)) (inside : Inside n (arrows_in m xs)) (r p : ℕ) (below : p < n) (at : rank_in ranks p ≡ r) (only : (q : ℕ) → q < n → rank_in ranks q ≡ r → q ≡ p) where
   -- a link of the table leads from one place to another
-  leads_by : (u v : ℕ) → table.Leads (links rows) u v → (t : P) × Leads (arrows_in m rows) u v t
+  leads_by : (u v : ℕ) → table.Leads xs u v → (t : P) × Leads (arrows_in m xs) u v t
   leads_by u v (l, h, s, t) = (
     m.leads l.passage,
-    subst (λ (a : ℕ). Leads (arrows_in m rows) a v (m.leads l.passage)) s (subst (λ (b : ℕ). Leads (arrows_in m rows) l.source.0 b (m.leads l.passage)) t (leads_of m.leads (links rows) l h)),
+    subst (λ (a : ℕ). Leads (arrows_in m xs) a v (m.leads l.passage)) s (subst (λ (b : ℕ). Leads (arrows_in m xs) l.source.0 b (m.leads l.passage)) t (leads_of m.leads xs l h)),
   )
 
-  go : (s t : State m.Value) → Progress m.kind (ledger_in m n own rows) (rank_in ranks) n e (value_in m n before) r s → Stepped m.kind (ledger_in m n own rows) (eqb p e) p s t →
-      Progress m.kind (ledger_in m n own rows) (rank_in ranks) n e (value_in m n before) (r + 1) t
-  go s t w step = stepped laws (ledger_in m n own rows) e (value_in m n before) (rank_in ranks) n up inside r p below at only (eqb p e) (eqb-true p e) (eqb-false p e) s t w step
+  go : (s t : State m.Value) → Progress m.kind (ledger_in m n own xs) (rank_in ranks) n e (value_in m n before) r s → Stepped m.kind (ledger_in m n own xs) (eqb p e) p s t →
+      Progress m.kind (ledger_in m n own xs) (rank_in ranks) n e (value_in m n before) (r + 1) t
+  go s t w step = stepped laws (ledger_in m n own xs) e (value_in m n before) (rank_in ranks) n up inside r p below at only (eqb p e) (eqb-true p e) (eqb-false p e) s t w step
 
   -- a place that is not marked
-  pub passed : (climb : Climb) (labels : List R) (marks : List ℕ) (list : List PlaceNumber) → (get_or marks p 0 ≡ 1 → ⊥) → Climbed m n own ranks rows e before r climb labels marks list →
-      Climbed m n own ranks rows e before (r + 1) climb labels marks list
+  pub passed : (climb : Climb) (labels : List R) (marks : List ℕ) (list : List PlaceNumber) → (get_or marks p 0 ≡ 1 → ⊥) → Climbed m n own ranks xs e before r climb labels marks list →
+      Climbed m n own ranks xs e before (r + 1) climb labels marks list
   passed climb labels marks list not_marked w =
       let due = (w.pending.marked p below).1 in
       record {
@@ -56,16 +54,16 @@ module _ {L P R S : Type 0} (m : Meaning L P R S) (laws : Laws m.kind) (n : ℕ)
         pending = w.pending;
       }
 
-  cause : (climb : Climb) (labels : List R) (marks : List ℕ) (list : List PlaceNumber) (w : Climbed m n own ranks rows e before r climb labels marks list) → get_or marks p 0 ≡ 1 →
-      (eqb p e ≡ true) ⊎ ((q : ℕ) × (x : P) × Leads (arrows_in m rows) q p x × (w.changed q ≡ 1))
+  cause : (climb : Climb) (labels : List R) (marks : List ℕ) (list : List PlaceNumber) (w : Climbed m n own ranks xs e before r climb labels marks list) → get_or marks p 0 ≡ 1 →
+      (eqb p e ≡ true) ⊎ ((q : ℕ) × (x : P) × Leads (arrows_in m xs) q p x × (w.changed q ≡ 1))
   cause climb labels marks list w is = ⊎_elim (λ q. inl (eq-eqb p e q)) inr ((w.pending.marked p below).0 is)
 
   module _ (climb : Climb) (labels labels' : List R) (marks : List ℕ) (list list' : List PlaceNumber) (is : get_or marks p 0 ≡ 1)
-      (relabelled : Put (value_in m n labels) (value_in m n labels') p (gathered m n own labels rows p))
+      (relabelled : Put (value_in m n labels) (value_in m n labels') p (gathered m n own labels xs p))
       (told : numbers (take (climb.reported + 1) list') ≡ numbers (take climb.reported list) ++ (p ∷ []))
-      (w : Climbed m n own ranks rows e before r climb labels marks list) where
+      (w : Climbed m n own ranks xs e before r climb labels marks list) where
     -- a marked place whose label stays
-    pub stayed : labels' ≡ labels → Climbed m n own ranks rows e before (r + 1) (record { reported = climb.reported + 1; changed = climb.changed; last = climb.last }) labels' marks list'
+    pub stayed : labels' ≡ labels → Climbed m n own ranks xs e before (r + 1) (record { reported = climb.reported + 1; changed = climb.changed; last = climb.last }) labels' marks list'
     stayed same =
         record {
           changed = w.changed;
@@ -80,8 +78,8 @@ module _ {L P R S : Type 0} (m : Meaning L P R S) (laws : Laws m.kind) (n : ℕ)
 
     -- a marked place whose label changed, and whose targets are marked
     module _ (marks' : List ℕ) (last : Rank) (differs : value_in m n labels' p ≡ value_in m n labels p → ⊥)
-        (all : (l : Link S) → Has (links rows) l → l.source.0 ≡ p → (get_or marks' l.target.0 0 ≡ 1) × (rank_in ranks l.target.0 ≤ last.0))
-        (none_else : (q : ℕ) → (get_or marks' q 0 ≡ get_or marks q 0) ⊎ ((get_or marks' q 0 ≡ 1) × table.Leads (links rows) p q))
+        (all : (l : Link S) → Has xs l → l.source.0 ≡ p → (get_or marks' l.target.0 0 ≡ 1) × (rank_in ranks l.target.0 ≤ last.0))
+        (none_else : (q : ℕ) → (get_or marks' q 0 ≡ get_or marks q 0) ⊎ ((get_or marks' q 0 ≡ 1) × table.Leads xs p q))
         (rises : climb.last.0 ≤ last.0) where
       abbrev changed' : ℕ → ℕ
       changed' = put w.changed p 1
@@ -92,18 +90,18 @@ module _ {L P R S : Type 0} (m : Meaning L P R S) (laws : Laws m.kind) (n : ℕ)
       stays_marked : (q : ℕ) → get_or marks q 0 ≡ 1 → get_or marks' q 0 ≡ 1
       stays_marked q h = ⊎_elim (λ s. s ∙ h) (λ b. b.0) (none_else q)
 
-      due' : (q : ℕ) → q < n → get_or marks' q 0 ≡ 1 → Due (arrows_in m rows) e changed' q
+      due' : (q : ℕ) → q < n → get_or marks' q 0 ≡ 1 → Due (arrows_in m xs) e changed' q
       due' q b h =
           ⊎_elim
           (λ s. ⊎_elim inl (λ d. inr (d.0, d.1, d.2, stays_changed d.0 d.3)) ((w.pending.marked q b).0 (sym s ∙ h)))
           (λ d. let t = leads_by p q d.1 in inr (p, t.0, t.1, put_here w.changed p 1))
           (none_else q)
 
-      marked' : (q : ℕ) → q < n → Due (arrows_in m rows) e changed' q → get_or marks' q 0 ≡ 1
+      marked' : (q : ℕ) → q < n → Due (arrows_in m xs) e changed' q → get_or marks' q 0 ≡ 1
       marked' q b (inl i) = stays_marked q ((w.pending.marked q b).1 (inl i))
       marked' q b (inr (x, t, h, c)) =
           ⊎_elim
-          (λ i. let o = of_leads m.leads (links rows) x q t h in subst (λ (j : ℕ). get_or marks' j 0 ≡ 1) o.3 (all o.0 o.1 (o.2 ∙ i)).0)
+          (λ i. let o = of_leads m.leads xs x q t h in subst (λ (j : ℕ). get_or marks' j 0 ≡ 1) o.3 (all o.0 o.1 (o.2 ∙ i)).0)
           (λ ne. stays_marked q ((w.pending.marked q b).1 (inr (x, t, h, sym (put_other w.changed p 1 x ne) ∙ c))))
           (cases_eq x p)
 
@@ -111,12 +109,12 @@ module _ {L P R S : Type 0} (m : Meaning L P R S) (laws : Laws m.kind) (n : ℕ)
       bound' q b h =
           ⊎_elim
           (λ s. let k = w.pending.bound q b (sym s ∙ h) in omega arith)
-          (λ (d : (get_or marks' q 0 ≡ 1) × table.Leads (links rows) p q).
+          (λ (d : (get_or marks' q 0 ≡ 1) × table.Leads xs p q).
           let l = d.1.0 in
           subst (λ (j : ℕ). rank_in ranks j ≤ last.0) d.1.3 (all l d.1.1 d.1.2).1)
           (none_else q)
 
-      pub turned : Climbed m n own ranks rows e before (r + 1) (record { reported = climb.reported + 1; changed = climb.changed + 1; last = last }) labels' marks' list'
+      pub turned : Climbed m n own ranks xs e before (r + 1) (record { reported = climb.reported + 1; changed = climb.changed + 1; last = last }) labels' marks' list'
       turned =
           record {
             changed = changed';

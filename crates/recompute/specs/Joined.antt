@@ -4,8 +4,6 @@ use Rattle.std.specs.List.{ContainsAt as Has}
 use Rattle.paths.specs.Kind.{Within}
 use Rattle.kinds.specs.Meanings.{Meaning}
 use Rattle.links.specs.declared.row.Link.{Link}
-use Rattle.links.specs.declared.row.LinkRow.{LinkRow}
-use Rattle.links.specs.Table.{links}
 use Rattle.recompute.specs.Tables.{value_in}
 
 module _ {L P R S : Type 0} (m : Meaning L P R S) where
@@ -14,6 +12,6 @@ module _ {L P R S : Type 0} (m : Meaning L P R S) where
   brought n labels l = m.kind.carry (m.leads l.passage) (value_in m n labels l.source.0)
 
   -- z takes in the value x and what each link into p brings
-  pub record Takes (n : ℕ) (labels : List R) (rows : List (LinkRow S)) (p : ℕ) (x z : m.Value) : Type 0 where
+  pub record Takes (n : ℕ) (labels : List R) (xs : List (Link S)) (p : ℕ) (x z : m.Value) : Type 0 where
     pub mine : Within m.kind x z
-    pub each : (l : Link S) → Has (links rows) l → l.target.0 ≡ p → Within m.kind (brought n labels l) z
+    pub each : (l : Link S) → Has xs l → l.target.0 ≡ p → Within m.kind (brought n labels l) z

@@ -6,7 +6,7 @@ use Rattle.paths.specs.Ledger.{Leads}
 use Rattle.paths.specs.Ledger.{Link as Arrow}
 use Rattle.paths.specs.Walk.{State, Progress}
 use Rattle.kinds.specs.Meanings.{Meaning}
-use Rattle.links.specs.declared.row.LinkRow.{LinkRow}
+use Rattle.links.specs.declared.row.Link.{Link}
 use Rattle.order.specs.Tables.{rank_in}
 use Rattle.recompute.specs.declared.climb.Climb.{Climb}
 use Rattle.recompute.specs.Tables.{numbers, value_in, arrows_in, ledger_in}
@@ -26,7 +26,7 @@ module _ {L P R S : Type 0} (m : Meaning L P R S) where
   state_of n labels changed list done = record { labels = value_in m n labels; marks = changed; told = numbers (take done.0 list); changed = done.1 }
 
   -- a walk from the edited place e has come to the rank r, and is to go on to the rank `last`
-  pub record Climbed (n : ℕ) (own : List R) (ranks : List Rank) (rows : List (LinkRow S)) (e : ℕ) (before : List R) (r : ℕ) (walk : Climb) (labels : List R) (marks : List ℕ) (list : List PlaceNumber) : Type 0 where
+  pub record Climbed (n : ℕ) (own : List R) (ranks : List Rank) (xs : List (Link S)) (e : ℕ) (before : List R) (r : ℕ) (walk : Climb) (labels : List R) (marks : List ℕ) (list : List PlaceNumber) : Type 0 where
     pub changed : ℕ → ℕ
-    pub progress : Progress m.kind (ledger_in m n own rows) (rank_in ranks) n e (value_in m n before) r (state_of n labels changed list (walk.reported, walk.changed))
-    pub pending : Pending (arrows_in m rows) ranks n e changed marks walk.last.0
+    pub progress : Progress m.kind (ledger_in m n own xs) (rank_in ranks) n e (value_in m n before) r (state_of n labels changed list (walk.reported, walk.changed))
+    pub pending : Pending (arrows_in m xs) ranks n e changed marks walk.last.0

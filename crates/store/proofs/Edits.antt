@@ -17,8 +17,7 @@ use Rattle.paths.proofs.Calls.{put_other, put_there}
 use Rattle.paths.proofs.Exists.{joins_balance}
 use Rattle.paths.proofs.Permutes.{ranked_one}
 use Rattle.kinds.specs.Meanings.{Meaning}
-use Rattle.links.specs.declared.row.LinkRow.{LinkRow}
-use Rattle.links.specs.Table.{links}
+use Rattle.links.specs.declared.row.Link.{Link as Row}
 use Rattle.links.specs.Theory.{Alike}
 use Rattle.law.specs.State.{Same}
 use Rattle.law.proofs.Orders.{whole_from}
@@ -26,8 +25,6 @@ use Rattle.order.specs.Tables.{order_in, Sound}
 use Rattle.order.specs.Tables as table
 use Rattle.recompute.specs.Tables.{numbers, value_in, arrows_in, Held, Recomputes}
 use Rattle.recompute.proofs.Grounds.{within}
--- the links that a store shows are those of its tables
-pub use Rattle.tables.proofs.Views.{links_are, links_number, is_linked, linked_by}
 
 -- the same report by other ranks that agree on the first n places
 other_ranks : {V P : Type 0} (k : Kind V P) (h : Ledger V P) (n e : ℕ) → Inside n h.links → e < n → (a b : ℕ → ℕ) → ((p : ℕ) → p < n → a p ≡ b p) →
@@ -47,7 +44,7 @@ other_ranks {V} {P} k h n e inside low a b same old new told counts r =
       second = r.second;
     }
 
-module _ {L P R S : Type 0} (m : Meaning L P R S) (laws : Laws m.kind) (n : ℕ) (own : List R) (rows : List (LinkRow S)) (ranks : List Rank) (places : List PlaceNumber) (sound : Sound n ranks places (links rows)) where
+module _ {L P R S : Type 0} (m : Meaning L P R S) (laws : Laws m.kind) (n : ℕ) (own : List R) (rows : List (Row S)) (ranks : List Rank) (places : List PlaceNumber) (sound : Sound n ranks places rows) where
   pub size : length (order_in n places) ≡ n
   size = length-take-le n (map (λ (p : PlaceNumber). p.0) places) (rw (length-map places (λ (p : PlaceNumber). p.0)) sound.wide)
 
@@ -105,6 +102,3 @@ elim_low n v u h = ⊎_elim (λ l. l) (λ l. absurd (h (inr l))) (cases_lt v n)
 
 pub elim_high : (n v u : ℕ) → ((n ≤ u) ⊎ (n ≤ v) → ⊥) → u < n
 elim_high n v u h = ⊎_elim (λ l. l) (λ l. absurd (h (inl l))) (cases_lt u n)
-
-pub elim_room : (n room : ℕ) → (room < n → ⊥) → n ≤ room
-elim_room n room h = ⊎_elim (λ l. absurd (h l)) (λ l. l) (cases_lt room n)

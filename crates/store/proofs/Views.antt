@@ -4,7 +4,6 @@ use Rattle.paths.specs.Kind.{Kind}
 use Rattle.paths.specs.Ledger.{Link, Ledger, Leads}
 use Rattle.paths.specs.Calls.{at_first}
 use Rattle.law.specs.State.{Same}
-pub use Rattle.tables.proofs.Views.{no_links, links_are as made_links}
 
 pub same_first : {V P : Type 0} (k : Kind V P) (g : Ledger V P) → ((p : ℕ) → g.present p ≡ false) → ((p : ℕ) → g.own p ≡ k.empty) → g.links ≡ [] → Same g (at_first k)
 same_first {V} {P} k g absent empty e =

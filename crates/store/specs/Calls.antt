@@ -8,6 +8,7 @@ use Rattle.law.specs.Calls.{Call, is_out}
 use Rattle.law.specs.State.{State, checks}
 use Rattle.law.specs.Steps.{Turns, Edits}
 use Rattle.recompute.specs.Tables.{numbers}
+use Rattle.std.specs.declared.cmp.PartialEq.{Ghosts as Eqs}
 use Rattle.kinds.specs.declared.kind.LabelKind.{Ghosts}
 use Rattle.kinds.specs.Meanings.{Meaning}
 use Rattle.common.specs.declared.number.PlaceNumber.{PlaceNumber}
@@ -36,6 +37,6 @@ pub record EditAccepts {K P R S : Type 0} (means : Meaning K P R S) (s : State m
   pub edits : Edits means.kind s c e (numbers (take counts.0 list)) counts.0 counts.1 t
 
 -- what every call leaves: how the making went, and the mark bytes
-pub record Keeps {K P R S : Type 0} {G : Ghosts K P R S} (s t : Store K P R S G) : Type 0 where
-  pub refused : t.refused ≡ s.refused
+pub record Keeps {K P R S : Type 0} {G : Ghosts K P R S} {E : Eqs K} (s t : Store K P R S G E) : Type 0 where
+  pub made : t.made ≡ s.made
   pub marks : vec_items t.tables.now.marks ≡ vec_items s.tables.now.marks

@@ -4,7 +4,8 @@ ghost use Rattle.std.specs.Prelude.{◌≡◌, Bool, true, false, ◌&&◌, ◌=
 use calendar::Day;
 use common::PlaceNumber;
 
-// A permit for one place and one day, in plain numbers. It has to be spent, by a discard or a give back, before it ends.
+// A permit for one place and one day, in plain numbers and not a `Grant`. It has to be spent, by a discard or a give back, before it ends.
+// `spent` is a flag by a rule of the project: the drop demands it.
 pub struct Permit {
     place: PlaceNumber,
     day: Day,
@@ -51,7 +52,7 @@ impl Permit {
     pub fn is_for(&self, place: PlaceNumber, day: Day) -> bool
         ensures { result ≡ (self.now.place.0 == place.0 && self.now.day.number == day.number) }
     {
-        self.place.number() == place.number() && self.day.number == day.number
+        self.place == place && self.day == day
     }
 
     // Lets it end.

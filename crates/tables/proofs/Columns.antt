@@ -1,16 +1,14 @@
 -- What a table says of its first places, as it is read, written and cleared. Assumes nothing.
-use Rattle.std.proofs.Common.{◌≡◌, ℕ, zero, suc, ◌+◌, ◌<◌, ◌≤◌, List, [], ◌∷◌, ◌++◌, map, length, get_or, take, drop, set, replicate, sym, refl, ap, ◌∙◌, subst, ⊎_elim, arith}
+use Rattle.std.proofs.Common.{◌≡◌, ℕ, zero, suc, ◌<◌, ◌≤◌, List, map, length, get_or, take, set, replicate, sym, refl, ap, ◌∙◌, subst, ⊎_elim, arith}
 use lib.Seq.{take-set-lt}
-use Rattle.std.proofs.lemmas.List.{length-map, length-set, length-take, get_or-map, get_or-take, get_or_default, get_or-replicate, get_or-set_same, get_or-set_other, map-set, take_more_set, replicate_more, drop-set-lt, drop-drop, same_lists}
+use Rattle.std.proofs.lemmas.List.{length-map, length-take, get_or-map, get_or-take, get_or_default, get_or-set_same, get_or-set_other, map-set, same_lists}
 use Rattle.std.proofs.lemmas.Bool.{cases_eq}
 use Rattle.common.specs.declared.number.PlaceNumber.{PlaceNumber}
 use Rattle.paths.specs.Calls.{put}
 use Rattle.paths.specs.Order.{upto}
 use Rattle.paths.proofs.Calls.{put_other, put_there}
 use Rattle.paths.proofs.Permutes.{upto_length, first_ranked}
-use Rattle.order.specs.Marks.{Clean}
 use Rattle.order.specs.Tables.{place_in, order_in}
-use Rattle.tables.specs.Fill.{Filled}
 use Rattle.tables.specs.Columns.{column}
 
 module _ {X Y : Type 0} (f : X → Y) (d : Y) (n : ℕ) where
@@ -41,21 +39,6 @@ module _ {X Y : Type 0} (f : X → Y) (d : Y) (n : ℕ) where
   -- rows that all say d
   pub column_flat : (xs : List X) (x : X) → take n xs ≡ replicate n x → f x ≡ d → (p : ℕ) → column f d n xs p ≡ d
   column_flat xs x e h p = ap (λ (ys : List X). get_or (map f ys) p d) e ∙ flat n x h p
-
-pub filled_none : {X : Type 0} (x : X) (xs : List X) → Filled 0 x xs xs
-filled_none x xs = record { front = refl; back = refl; long = refl }
-
-pub filled_more : {X : Type 0} (n : ℕ) (x : X) (old new : List X) → n < length new → Filled n x old new → Filled (n + 1) x old (set new n x)
-filled_more n x old new l f =
-    record {
-      front = take_more_set new n x l ∙ ap (λ (ys : List _). ys ++ (x ∷ [])) f.front ∙ replicate_more n x;
-      back = drop-set-lt (n + 1) new n x (omega arith) ∙ sym (drop-drop 1 n new) ∙ ap (drop 1) f.back ∙ drop-drop 1 n old;
-      long = length-set new n x ∙ f.long;
-    }
-
--- zeros in front
-pub filled_clean : (n : ℕ) (old new : List ℕ) → Filled n 0 old new → Clean n new
-filled_clean n old new f k l = sym (get_or-take n new k 0 l) ∙ ap (λ (ys : List ℕ). get_or ys k 0) f.front ∙ get_or-replicate n k 0 0 l
 
 -- places that stand at their own numbers
 pub first_order : (n : ℕ) (places : List PlaceNumber) → n ≤ length places → ((r : ℕ) → r < n → place_in places r ≡ r) → order_in n places ≡ upto n

@@ -5,10 +5,8 @@ use Rattle.common.specs.declared.refusal.Refusal.{Refusal}
 use Rattle.common.specs.declared.refusal.Refusal.TheVariants.{BadSize, ShortTable}
 use Rattle.paths.specs.Order.{upto}
 use Rattle.kinds.specs.Meanings.{Meaning}
-use Rattle.links.specs.Table.{Kept, links}
-use Rattle.links.specs.declared.row.Tally.{Tally}
-use Rattle.order.specs.Tables.{order_in, Ordered}
-use Rattle.order.specs.Marks.{Clean}
+use Rattle.order.specs.Tables.{order_in}
+use Rattle.order.specs.Graph.{size, linked, order_of}
 use Rattle.tables.specs.declared.tables.Tables.{Tables}
 use Rattle.tables.specs.Room.{Limits, Room}
 use Rattle.tables.specs.Columns.{present_in, values_in}
@@ -18,14 +16,12 @@ abbrev pub making : {R S : Type 0} → Tables R S → ℕ → ℕ → List (Chec
 making t n m = (BadSize when (Limits n m → ⊥)) ∷ (ShortTable when (Room t n m → ⊥)) ∷ []
 
 -- new are the tables old, cleared for a new store of n places for m links
-pub record Cleared {K P R S : Type 0} (means : Meaning K P R S) (n m : ℕ) (old new : Tables R S) (tally : Tally) : Type 0 where
+pub record Cleared {K P R S : Type 0} (means : Meaning K P R S) (n m : ℕ) (old new : Tables R S) : Type 0 where
   pub room : Room new n m
+  pub places : size new.graph ≡ n
   pub present : (p : ℕ) → present_in n (vec_items new.present) p ≡ false
   pub own : (p : ℕ) → values_in means n (vec_items new.own) p ≡ means.kind.empty
   pub labels : (p : ℕ) → values_in means n (vec_items new.labels) p ≡ means.kind.empty
-  pub order : order_in n (vec_items new.order) ≡ upto n
-  pub ordered : Ordered n (vec_items new.ranks) (vec_items new.order) (links (vec_items new.links))
-  pub kept : Kept (vec_items new.links) (vec_items new.heads) tally
-  pub unlinked : links (vec_items new.links) ≡ []
-  pub clean : Clean n (vec_items new.marks)
+  pub order : order_in n (order_of new.graph) ≡ upto n
+  pub unlinked : linked new.graph ≡ []
   pub past : drop n (vec_items new.marks) ≡ drop n (vec_items old.marks)

@@ -2,10 +2,10 @@
 use Rattle.std.specs.Prelude.{ℕ, cond, List, [], vec_items, ◌==◌}
 use Rattle.paths.specs.Ledger.{Link, Ledger}
 use Rattle.kinds.specs.Meanings.{Meaning}
-use Rattle.links.specs.declared.row.LinkRow.{LinkRow}
-use Rattle.links.specs.Table.{links}
+use Rattle.links.specs.declared.row.Link.{Link as Row}
 use Rattle.links.specs.Theory.{arrows}
 use Rattle.order.specs.Tables.{order_in}
+use Rattle.order.specs.Graph.{linked, order_of}
 use Rattle.law.specs.Calls.{Permit}
 use Rattle.law.specs.State.{State}
 use Rattle.tables.specs.declared.tables.Tables.{Tables}
@@ -13,15 +13,15 @@ use Rattle.tables.specs.Columns.{present_in, values_in}
 
 module _ {K P R S : Type 0} (m : Meaning K P R S) where
   -- the links of the table; a store without places has none
-  abbrev pub links_of : ℕ → List (LinkRow S) → List (Link P)
-  links_of n rows = cond (n == 0) [] (arrows m.leads (links rows))
+  abbrev pub links_of : ℕ → List (Row S) → List (Link P)
+  links_of n xs = cond (n == 0) [] (arrows m.leads xs)
 
   abbrev pub ledger_of : ℕ → Tables R S → Ledger m.Value P
   ledger_of n t =
       record {
         present = present_in n (vec_items t.present);
         own = values_in m n (vec_items t.own);
-        links = links_of n (vec_items t.links);
+        links = links_of n (linked t.graph);
       }
 
   abbrev pub labels_of : ℕ → Tables R S → ℕ → m.Value
@@ -35,6 +35,6 @@ module _ {K P R S : Type 0} (m : Meaning K P R S) where
         limit = limit;
         ledger = ledger_of n t;
         label = labels_of n t;
-        order = order_in n (vec_items t.order);
+        order = order_in n (order_of t.graph);
         permit = permit;
       }

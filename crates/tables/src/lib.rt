@@ -6,5 +6,5 @@ pub mod making;
 pub mod tables;
 
 pub use entry::{read, write};
-pub use making::{clear, refusal};
+pub use making::{MOST_LINKS, MOST_PLACES, clear};
 pub use tables::Tables;

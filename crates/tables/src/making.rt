@@ -1,8 +1,7 @@
-// Making a store: the checks of its tables, and how they are cleared.
-ghost use Rattle.std.specs.Prelude.{◌≡◌, ℕ, ◌^◌, ◌<◌, ◌≤◌, true, false, [], vec_len, MatchOption};
+// Tables made of the caller's memory, and made ready for a store.
+ghost use Rattle.std.specs.Prelude.{◌≡◌, ℕ, ◌≤◌, ◌↔◌, true, [], length, vec_len, MatchResult};
 ghost use Rattle.common.specs.Checks.{Refused, Passed};
-ghost use Rattle.links.specs.Table.{Kept, links as row_links};
-ghost use Rattle.order.specs.Tables.{rank_in, place_in};
+ghost use Rattle.order.specs.Graph.{size, linked};
 ghost use Rattle.tables.specs.Room.{Limits, Room};
 ghost use Rattle.tables.specs.Fill.{Filled};
 ghost use Rattle.tables.specs.Making.{making, Cleared};
@@ -10,77 +9,83 @@ ghost use Rattle.tables.specs.Making.{making, Cleared};
 use super::tables::Tables;
 use common::{PlaceNumber, Rank, Refusal};
 use kinds::LabelKind;
-use links::{Heads, LinkRow, Tally};
+use links::{Heads, LinkRow, LinkTable};
+use order::Graph;
 
 pub const MOST_PLACES: usize = 4096;
 
 pub const MOST_LINKS: usize = 16384;
 
-// Whether no table is too short for n places and m links.
-fn has_room<R: Copy, S: Copy>(tables: &Tables<R, S>, n: usize, m: usize) -> bool
-    ensures yes { result ≡ true → Room tables.now n m }
-    ensures no { result ≡ false → Room tables.now n m → ⊥ }
-{
-    let labels = tables.own.len().min(tables.labels.len());
-    let order = tables.ranks.len().min(tables.order.len());
-    let flags = tables.present.len().min(tables.marks.len());
-    let places = labels.min(order).min(flags).min(tables.heads.len());
-    n <= places && m <= tables.links.len()
-}
-
-// Why no store of n places for m links can be made over the tables, if so.
-pub fn refusal<R: Copy, S: Copy>(tables: &Tables<R, S>, n: usize, m: usize) -> Option<Refusal>
-    ensures { MatchOption result (Passed (making tables.now n m)) (λ e. Refused (making tables.now n m) e) }
-{
-    if n < 1 || n > MOST_PLACES || m < 1 || m > MOST_LINKS {
-        return Some(Refusal::BadSize);
+impl<R: Copy, S: Copy> Tables<R, S> {
+    // The tables over this memory, whatever it holds: no place is theirs yet.
+    pub fn new(
+        present: Vec<bool>,
+        own: Vec<R>,
+        labels: Vec<R>,
+        ranks: Vec<Rank>,
+        order: Vec<PlaceNumber>,
+        heads: Vec<Heads>,
+        links: Vec<LinkRow<S>>,
+        marks: Vec<u8>,
+    ) -> Tables<R, S>
+        ensures room { (n m : ℕ) → Room result n m ↔ ((((n ≤ vec_len present) × (n ≤ vec_len marks)) × ((n ≤ vec_len own) × (n ≤ vec_len labels))) × ((n ≤ vec_len ranks) × (n ≤ vec_len order) × (n ≤ vec_len heads) × (m ≤ vec_len links))) }
+        ensures places { size result.graph ≡ 0 }
+        ensures links { linked result.graph ≡ [] }
+        ensures kept { (result.present ≡ present) × (result.own ≡ own) × (result.labels ≡ labels) × (result.marks ≡ marks) }
+    {
+        let graph = Graph::new(LinkTable::new(links, heads), ranks, order);
+        Tables {
+            present,
+            own,
+            labels,
+            graph,
+            marks,
+        }
     }
-    if !has_room(tables, n, m) {
-        return Some(Refusal::ShortTable);
+
+    // Whether no table is too short for n places and m links.
+    fn has_room(&self, n: usize, m: usize) -> bool
+        ensures { (result ≡ true) ↔ Room self.now n m }
+    {
+        let labels = self.own.len().min(self.labels.len());
+        let flags = self.present.len().min(self.marks.len());
+        n <= labels.min(flags) && self.graph.has_room(n, m)
     }
-    None
-}
 
-// Writes x into the first n entries.
-fn fill<X: Copy>(table: &mut Vec<X>, n: usize, x: X)
-    requires { n ≤ vec_len table.old }
-    ensures { Filled n x table.old.items table.new.items }
-{
-    for i in 0..n {
-        table[i] = x;
+    // Whether a store of n places for m links can be made over the tables, or why not.
+    pub fn check(&self, n: usize, m: usize) -> Result<(), Refusal>
+        ensures { MatchResult result (λ _. Passed (making self.now n m)) (λ e. Refused (making self.now n m) e) }
+    {
+        if !(1..=MOST_PLACES).contains(&n) || !(1..=MOST_LINKS).contains(&m) {
+            return Err(Refusal::BadSize);
+        }
+        if !self.has_room(n, m) {
+            return Err(Refusal::ShortTable);
+        }
+        Ok(())
     }
 }
 
-// Gives each of n places its number as its rank.
-fn number(ranks: &mut Vec<Rank>, order: &mut Vec<PlaceNumber>, n: usize)
-    requires { (n < 2 ^ 31) × ((n ≤ vec_len ranks.old) × (n ≤ vec_len order.old)) }
-    ensures ranks { (p : ℕ) → p < n → rank_in ranks.new.items p ≡ p }
-    ensures places { (r : ℕ) → r < n → place_in order.new.items r ≡ r }
-    ensures sizes { (vec_len ranks.new ≡ vec_len ranks.old) × (vec_len order.new ≡ vec_len order.old) }
+// Writes x into the first n entries. (The slice's own `fill` asks for a clone that cannot fail, which `Copy` does not promise.)
+fn fill<X: Copy>(table: &mut [X], n: usize, x: X)
+    requires { n ≤ length table.old }
+    ensures { Filled n x table.old table.new }
 {
-    order::first_ranks(ranks.as_mut_slice(), order.as_mut_slice(), n);
-}
-
-// Makes the link table empty.
-fn unlink_all<S: Copy>(rows: &mut Vec<LinkRow<S>>, heads: &mut Vec<Heads>) -> Tally
-    ensures kept { Kept rows.new.items heads.new.items result }
-    ensures empty { row_links rows.new.items ≡ [] }
-    ensures sizes { (vec_len rows.new ≡ vec_len rows.old) × (vec_len heads.new ≡ vec_len heads.old) }
-{
-    links::reset(rows.as_mut_slice(), heads.as_mut_slice())
+    for entry in table[..n].iter_mut() {
+        *entry = x;
+    }
 }
 
 // Clears the tables for a new store of n places.
-pub fn clear<K: LabelKind>(tables: &mut Tables<K::Row, K::PassageRow>, n: usize, m: usize) -> Tally
+pub fn clear<K: LabelKind>(tables: &mut Tables<K::Row, K::PassageRow>, n: usize, m: usize)
     requires limits { Limits n m }
     requires room { Room tables.old n m }
-    ensures { Cleared K.means n m tables.old tables.new result }
+    ensures { Cleared K.means n m tables.old tables.new }
 {
     let row = K::empty().to_row();
-    fill(&mut tables.present, n, false);
-    fill(&mut tables.own, n, row);
-    fill(&mut tables.labels, n, row);
-    fill(&mut tables.marks, n, 0);
-    number(&mut tables.ranks, &mut tables.order, n);
-    unlink_all(&mut tables.links, &mut tables.heads)
+    fill(tables.present.as_mut_slice(), n, false);
+    fill(tables.own.as_mut_slice(), n, row);
+    fill(tables.labels.as_mut_slice(), n, row);
+    fill(tables.marks.as_mut_slice(), n, 0);
+    tables.graph.reset(n);
 }

@@ -1,17 +1,21 @@
 // The tables of a store. The caller owns them, and lends them to the store for as long as it stands.
-use common::{PlaceNumber, Rank};
-use links::{Heads, LinkRow};
+ghost use Rattle.std.specs.Prelude.{◌≤◌, vec_len};
+ghost use Rattle.order.specs.Graph.{size};
+ghost use Rattle.order.specs.Marks.{Clean};
 
-// R are the rows of labels, S those of passages. The first six have an entry for each place, by its number; `order` has the
-// places by their ranks. `marks` has a byte for each place, zero outside a search.
+use order::Graph;
+
+// R are the rows of labels, S those of passages. Each of the vectors has an entry for each place of the graph, by its number.
+// `marks` has a byte for each place, zero outside a search.
 #[derive(Drop)]
 pub struct Tables<R: Copy, S: Copy> {
+    // Columns, and no vector of entries: the caller lends them one by one, and each may be longer than the store.
     pub present: Vec<bool>,
     pub own: Vec<R>,
     pub labels: Vec<R>,
-    pub ranks: Vec<Rank>,
-    pub order: Vec<PlaceNumber>,
-    pub heads: Vec<Heads>,
-    pub links: Vec<LinkRow<S>>,
+    pub graph: Graph<S>,
     pub marks: Vec<u8>,
+    ghost flags: { (size graph ≤ vec_len present) × (size graph ≤ vec_len marks) },
+    ghost rows: { (size graph ≤ vec_len own) × (size graph ≤ vec_len labels) },
+    ghost clean: { Clean (size graph) marks.items },
 }

@@ -1,2 +1,1 @@
 pub mod HouseText
-pub mod ExpiryBeforeLemmas

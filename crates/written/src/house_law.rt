@@ -6,9 +6,9 @@ use super::law::written_stands;
 use house::House;
 
 // Read before a closing bracket, what is written for a house label or passage gives an equal one, and the reading stops at that bracket.
-pub fn house_stands() -> u8
+pub fn house_stands()
     ensures label { Again house_label }
     ensures passage { Again house_passage }
 {
-    written_stands::<House>()
+    written_stands::<House>();
 }

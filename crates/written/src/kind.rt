@@ -1,71 +1,54 @@
 // What a written kind is.
-ghost use Rattle.std.specs.Prelude.{◌≡◌, ℕ, ◌+◌, ◌≤◌, length, drop};
-ghost use Rattle.reading.specs.Agree.{Reads};
-ghost use Rattle.parts.specs.Spelling.{Spelling, Spells, Apart, as_text, begun};
-ghost use Rattle.parts.specs.Buffers.{Puts, Rooms};
+ghost use Rattle.std.specs.Prelude.{◌≡◌, false};
+ghost use Rattle.reading.specs.Agree.{Takes};
+ghost use Rattle.parts.specs.Spelling.{Again, as_text};
+ghost use Rattle.parts.specs.Buffers.{Writes};
 
+use common::Refusal;
 use kinds::LabelKind;
-use reading::Fault;
+use parts::{TextForm, write};
+use reading::{Fault, Reader};
 
-// A label kind whose labels and passages can be written and read back. `spelling` and `stepping` say what is written for each and what is
-// read; by the laws, what is written reads back equal. In the functions, `started` says that something stands before on the line, so that a
-// space is due before the next part, and `more` that parts of another kind may follow.
+// A label kind whose labels and passages can be written and read back: it names the text form of each, and the forms have the laws.
+// Each function has two names, since labels and passages are two types of one kind; both only go through the forms.
 pub trait Written: LabelKind {
-    ghost spelling: { Spelling Self };
+    type Text: TextForm<Value = Self>;
 
-    ghost stepping: { Spelling Self.Passage };
+    type PassageText: TextForm<Value = Self::Passage>;
 
-    fn read(
-        text: &[u8],
-        at: usize,
+    // The label, and whether something stands before what follows it.
+    final fn read(reader: &mut Reader, more: bool, started: bool) -> Result<(Self, bool), Fault>
+        ensures { Takes reader.old reader.new 0 (λ x. x) (Self.Text.TextForm.spelling.reading more started) result }
+    {
+        Self::Text::read(reader, more, started)
+    }
+
+    final fn read_passage(
+        reader: &mut Reader,
         more: bool,
         started: bool,
-    ) -> Result<((Self, bool), usize), Fault>
-        requires { at ≤ length text.now }
-        ensures { Reads text.now at (λ x. x) (spelling.reading more started (drop at text.now)) result };
+    ) -> Result<(Self::Passage, bool), Fault>
+        ensures { Takes reader.old reader.new 0 (λ x. x) (Self.PassageText.TextForm.spelling.reading more started) result }
+    {
+        Self::PassageText::read(reader, more, started)
+    }
 
-    fn read_passage(
-        text: &[u8],
-        at: usize,
-        more: bool,
-        started: bool,
-    ) -> Result<((Self::Passage, bool), usize), Fault>
-        requires { at ≤ length text.now }
-        ensures { Reads text.now at (λ x. x) (stepping.reading more started (drop at text.now)) result };
+    // Answers the length of what is written. A buffer that is too short is refused, and stays as it was.
+    final fn write(self, out: &mut [u8]) -> Result<usize, Refusal>
+        ensures { Writes out.old (as_text Self.Text.TextForm.spelling false self) out.new result }
+    {
+        write::<Self::Text>(self, out)
+    }
 
-    // What is left of the room after the label, if it fits.
-    fn room_after(self, room: usize, started: bool) -> Option<(usize, bool)>
-        ensures { Rooms room (as_text spelling started self) (begun spelling started self) result };
+    final fn write_passage(passage: Self::Passage, out: &mut [u8]) -> Result<usize, Refusal>
+        ensures { Writes out.old (as_text Self.PassageText.TextForm.spelling false passage) out.new result }
+    {
+        write::<Self::PassageText>(passage, out)
+    }
 
-    fn room_after_passage(
-        passage: Self::Passage,
-        room: usize,
-        started: bool,
-    ) -> Option<(usize, bool)>
-        ensures { Rooms room (as_text stepping started passage) (begun stepping started passage) result };
-
-    // Writes the label at a place of the buffer, and answers the place after it.
-    fn put(self, out: &mut [u8], at: usize, started: bool) -> (usize, bool)
-        requires { at + length (as_text spelling started self) ≤ length out.old }
-        ensures { Puts out.old at (as_text spelling started self) (begun spelling started self) out.new result };
-
-    fn put_passage(
-        passage: Self::Passage,
-        out: &mut [u8],
-        at: usize,
-        started: bool,
-    ) -> (usize, bool)
-        requires { at + length (as_text stepping started passage) ≤ length out.old }
-        ensures { Puts out.old at (as_text stepping started passage) (begun stepping started passage) out.new result };
-
-    ghost spelled: { Spells spelling };
-
-    ghost stepped: { Spells stepping };
-}
-
-// A written kind that shares no word with B, so that the parts of B may follow its own.
-pub trait Before<B: Written>: Written {
-    ghost apart: { Apart Self.Written.spelling.names B.Written.spelling.names };
-
-    ghost steps: { Apart Self.Written.stepping.names B.Written.stepping.names };
+    // Read before a closing bracket, what is written gives an equal label or passage, and the reading stops at that bracket.
+    final fn reads_back()
+        ensures label { Again Self.Text.TextForm.spelling }
+        ensures passage { Again Self.PassageText.TextForm.spelling }
+    {}
 }

@@ -4,9 +4,9 @@ ghost use Rattle.parts.specs.Spelling.{Again};
 use super::kind::Written;
 
 // Read before a closing bracket, what is written for a label or a passage gives an equal one, and the reading stops at that bracket.
-pub fn written_stands<K: Written>() -> u8
-    ensures label { Again K.Written.spelling }
-    ensures passage { Again K.Written.stepping }
+pub fn written_stands<K: Written>()
+    ensures label { Again K.Text.TextForm.spelling }
+    ensures passage { Again K.PassageText.TextForm.spelling }
 {
-    0
+    K::reads_back();
 }

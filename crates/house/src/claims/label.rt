@@ -1,6 +1,6 @@
 // Sets of claims as a label kind: the union of two, free when empty.
 ghost use Rattle.house.specs.ClaimSets.{claims_means};
-ghost use Rattle.house.specs.ClaimsLaws.{claims_lawful, claims_freeing};
+ghost use Rattle.house.specs.ClaimsLaws.{claims_tells, claims_lawful, claims_freeing};
 
 use super::super::word;
 use super::Claims;
@@ -22,6 +22,8 @@ impl LabelKind for Claims {
 
     ghost blankpassage = { 0 };
 
+    ghost tells = { claims_tells };
+
     ghost lawful = { claims_lawful };
 
     ghost freeing = { claims_freeing };
@@ -34,10 +36,6 @@ impl LabelKind for Claims {
         Claims {
             bits: word::union(self.bits, other.bits),
         }
-    }
-
-    fn same(self, other: Claims) -> bool {
-        self.bits == other.bits
     }
 
     fn carry(self, passage: Claims) -> Claims {

@@ -24,6 +24,7 @@ impl Claims {
     pub fn with(self, claim: u32) -> Result<Claims, Refusal>
         ensures { Ranged 0 63 claim result (λ more. (k : ℕ) → member more k ≡ (member self k || k == claim)) }
     {
+        // A range of one bound: `>` is shorter than `contains`.
         if claim > 63 {
             return Err(Refusal::OutOfRange);
         }

@@ -1,7 +1,8 @@
 // Expiries as a label kind: the later of two, free once the day is over.
 ghost use Rattle.std.specs.Prelude.{◌≡◌, ◌≤◌};
 ghost use Rattle.house.specs.Expiries.{expiry_means, shifted};
-ghost use Rattle.house.specs.ExpiryLaws.{expiry_lawful, expiry_freeing};
+ghost use Rattle.house.specs.ExpiryLaws.{expiry_tells, expiry_lawful, expiry_freeing};
+ghost use Rattle.house.specs.declared.expiry.ExpiryPassageRow.{ExpiryPassageRow};
 
 use super::{Expiry, ExpiryPassage, ExpiryPassageRow, Span, YearCount};
 use calendar::Day;
@@ -28,14 +29,15 @@ impl LabelKind for Expiry {
     // The number. One past the last day is read as that day.
     type Row = u32;
 
-    // A number outside its range is read as the nearest in it.
     type PassageRow = ExpiryPassageRow;
 
     ghost means = { expiry_means };
 
     ghost blank = { 0 };
 
-    ghost blankpassage = { record { form = 0; count = 0 } };
+    ghost blankpassage = { ExpiryPassageRow.Pass };
+
+    ghost tells = { expiry_tells };
 
     ghost lawful = { expiry_lawful };
 
@@ -46,15 +48,7 @@ impl LabelKind for Expiry {
     }
 
     fn join(self, other: Expiry) -> Expiry {
-        if self.number < other.number {
-            other
-        } else {
-            self
-        }
-    }
-
-    fn same(self, other: Expiry) -> bool {
-        self.number == other.number
+        self.max(other)
     }
 
     fn carry(self, passage: ExpiryPassage) -> Expiry {
@@ -63,7 +57,7 @@ impl LabelKind for Expiry {
             ExpiryPassage::Cap(day) => Expiry {
                 number: self.number.min(day.number),
             },
-            ExpiryPassage::Add(span) => self.shift(span.days),
+            ExpiryPassage::Add(span) => self.shift(span.count),
             ExpiryPassage::Years(years) => self.shift(365 * years.count),
         }
     }
@@ -84,34 +78,21 @@ impl LabelKind for Expiry {
 
     fn passage_to_row(passage: ExpiryPassage) -> ExpiryPassageRow {
         match passage {
-            ExpiryPassage::Pass => ExpiryPassageRow { form: 0, count: 0 },
-            ExpiryPassage::Cap(day) => ExpiryPassageRow {
-                form: 1,
-                count: day.number,
-            },
-            ExpiryPassage::Add(span) => ExpiryPassageRow {
-                form: 2,
-                count: span.days,
-            },
-            ExpiryPassage::Years(years) => ExpiryPassageRow {
-                form: 3,
-                count: years.count,
-            },
+            ExpiryPassage::Pass => ExpiryPassageRow::Pass,
+            ExpiryPassage::Cap(day) => ExpiryPassageRow::Cap(day.number),
+            ExpiryPassage::Add(span) => ExpiryPassageRow::Add(span.count),
+            ExpiryPassage::Years(years) => ExpiryPassageRow::Years(years.count),
         }
     }
 
     fn passage_from_row(row: ExpiryPassageRow) -> ExpiryPassage {
-        match row.form {
-            1 => ExpiryPassage::Cap(Day {
-                number: row.count.max(1).min(Day::LAST),
+        match row {
+            ExpiryPassageRow::Pass => ExpiryPassage::Pass,
+            ExpiryPassageRow::Cap(number) => ExpiryPassage::Cap(Day {
+                number: number.clamp(1, Day::LAST),
             }),
-            2 => ExpiryPassage::Add(Span {
-                days: row.count.max(1).min(Span::MOST),
-            }),
-            3 => ExpiryPassage::Years(YearCount {
-                count: row.count.max(1).min(YearCount::MOST),
-            }),
-            _ => ExpiryPassage::Pass,
+            ExpiryPassageRow::Add(days) => ExpiryPassage::Add(Span::nearest(days)),
+            ExpiryPassageRow::Years(count) => ExpiryPassage::Years(YearCount::nearest(count)),
         }
     }
 }

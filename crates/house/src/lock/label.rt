@@ -1,6 +1,8 @@
 // Locks as a label kind: the higher of two, free below 2.
+#![tactic(auto, using(crate::specs::LockLaws::ceiling_row))]
+
 ghost use Rattle.house.specs.Locks.{lock_means};
-ghost use Rattle.house.specs.LockLaws.{lock_lawful, lock_freeing};
+ghost use Rattle.house.specs.LockLaws.{lock_tells, lock_lawful, lock_freeing};
 
 use super::{Ceiling, Lock, LockPassage};
 use calendar::Day;
@@ -12,7 +14,7 @@ impl LabelKind for Lock {
     // The level. A higher number is read as 3.
     type Row = u8;
 
-    // The ceiling, and from 3 on pass.
+    // The ceiling, and from 3 on pass: one plain byte in a lent table.
     type PassageRow = u8;
 
     ghost means = { lock_means };
@@ -20,6 +22,8 @@ impl LabelKind for Lock {
     ghost blank = { 0 };
 
     ghost blankpassage = { 0 };
+
+    ghost tells = { lock_tells };
 
     ghost lawful = { lock_lawful };
 
@@ -30,15 +34,7 @@ impl LabelKind for Lock {
     }
 
     fn join(self, other: Lock) -> Lock {
-        if self.level < other.level {
-            other
-        } else {
-            self
-        }
-    }
-
-    fn same(self, other: Lock) -> bool {
-        self.level == other.level
+        self.max(other)
     }
 
     fn carry(self, passage: LockPassage) -> Lock {
@@ -70,10 +66,9 @@ impl LabelKind for Lock {
     }
 
     fn passage_from_row(row: u8) -> LockPassage {
-        if row < 3 {
-            LockPassage::Most(Ceiling { level: row })
-        } else {
-            LockPassage::Pass
+        match Ceiling::try_from(row) {
+            Ok(ceiling) => LockPassage::Most(ceiling),
+            Err(_) => LockPassage::Pass,
         }
     }
 }

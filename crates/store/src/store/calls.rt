@@ -1,9 +1,9 @@
 // The calls of a store.
-ghost use Rattle.std.specs.Prelude.{◌≡◌, ℕ, ◌<◌, length, drop, IfOk, Some, None, MatchResult};
+ghost use Rattle.std.specs.Prelude.{◌≡◌, ℕ, ◌<◌, true, false, length, drop, IfOk, Some, None, MatchResult};
 ghost use Rattle.common.specs.Checks.{Passed, Refused};
 ghost use Rattle.paths.specs.Ledger.{IsJoin, AreJoins};
 ghost use Rattle.law.specs.Calls.{is_out, bring as bringing, label as asking, own as owning, unlink as unlinking, link as linking};
-ghost use Rattle.law.specs.State.{checks};
+ghost use Rattle.law.specs.State.{IsLinked, checks};
 ghost use Rattle.tables.specs.Columns.{present_in};
 ghost use Rattle.store.specs.View.{permit_in, view};
 ghost use Rattle.store.specs.Making.{Makes};
@@ -11,59 +11,48 @@ ghost use Rattle.store.specs.Calls.{Accepts, EditAccepts, Refuses, Keeps, end_ch
 
 use crate::store::Store;
 use common::{PlaceNumber, Refusal};
-use editing::{count_in, link_in, linked_in, own_in, unlink_in};
+use editing::{link_in, own_in, unlink_in};
 use kinds::LabelKind;
-use links::{Slot, Tally};
-use tables::{Tables, clear, read, refusal, write};
+use tables::{Tables, clear, read};
 
 impl<'a, K: LabelKind> Store<'a, K> {
     // Makes a store of n places for at most m links. Where the sizes or the tables are refused, the store has no places, and `made` says why.
     pub fn new(tables: &'a mut Tables<K::Row, K::PassageRow>, n: usize, m: usize) -> Store<'a, K>
         ensures { Makes K.means tables.old n m result }
     {
-        if let Some(e) = refusal(&*tables, n, m) {
+        if let Err(e) = tables.check(n, m) {
             return Store {
                 tables,
                 n: 0,
                 m: 0,
-                tally: Tally {
-                    count: 0,
-                    free: Slot(0),
-                },
                 permit: None,
-                refused: Some(e),
+                made: Err(e),
             };
         }
-        let tally = clear::<K>(&mut *tables, n, m);
+        clear::<K>(&mut *tables, n, m);
         Store {
             tables,
             n,
             m,
-            tally,
             permit: None,
-            refused: None,
+            made: Ok(()),
         }
     }
 }
 
+// A call tests what its table of checks says, line by line and in that order; `ends` has the first four lines of both links.
 impl<K: LabelKind> Store<'_, K> {
     // Whether the store was made, or why it was refused.
     pub fn made(&self) -> Result<(), Refusal>
-        ensures { MatchResult result (λ _. self.now.refused ≡ None) (λ e. self.now.refused ≡ Some e) }
+        ensures { result ≡ self.now.made }
     {
-        match self.refused {
-            Some(e) => Err(e),
-            None => Ok(()),
-        }
+        self.made
     }
 
     pub(crate) fn permit_is_out(&self) -> bool
         ensures { result ≡ is_out (permit_in self.now.permit) }
     {
-        match self.permit {
-            Some(_) => true,
-            None => false,
-        }
+        self.permit.is_some()
     }
 
     pub(crate) fn is_present(&self, p: PlaceNumber) -> bool
@@ -71,6 +60,23 @@ impl<K: LabelKind> Store<'_, K> {
         ensures { result ≡ present_in self.now.n self.now.tables.now.present.items p.0 }
     {
         read(&self.tables.present, p)
+    }
+
+    // Whether a link leads from u to v.
+    fn is_linked(&self, u: PlaceNumber, v: PlaceNumber) -> bool
+        requires { u.0 < self.now.n }
+        ensures yes { result ≡ true → IsLinked (view K.means self.now).ledger.links u.0 v.0 }
+        ensures no { result ≡ false → IsLinked (view K.means self.now).ledger.links u.0 v.0 → ⊥ }
+    {
+        self.tables.graph.is_linked(u, v)
+    }
+
+    // How many links there are.
+    fn count(&self) -> usize
+        requires { 0 < self.now.n }
+        ensures { result ≡ length (view K.means self.now).ledger.links }
+    {
+        self.tables.graph.count()
     }
 
     // The checks that link and unlink share: no permit is out, the list is long enough, and both places are there and present.
@@ -109,7 +115,7 @@ impl<K: LabelKind> Store<'_, K> {
         if self.is_present(p) {
             return Err(Refusal::Present);
         }
-        write(&mut self.tables.present, p, true);
+        self.tables.bring(p);
         Ok(())
     }
 
@@ -150,10 +156,7 @@ impl<K: LabelKind> Store<'_, K> {
         if !self.is_present(p) {
             return Err(Refusal::Absent);
         }
-        let n = self.n;
-        let m = self.m;
-        let tally = self.tally;
-        Ok(own_in::<K>(&mut *self.tables, tally, n, m, p, label, list))
+        Ok(own_in::<K>(&mut *self.tables, p, label, list))
     }
 
     // Takes the link from u to v away, and writes the reported places to the list. Answers how many were reported, and how many changed.
@@ -168,15 +171,10 @@ impl<K: LabelKind> Store<'_, K> {
         ensures kept { Keeps self.old self.new }
     {
         self.ends(u, v, list.len())?;
-        let n = self.n;
-        let m = self.m;
-        let mut tally = self.tally;
-        if !linked_in(&*self.tables, tally, u, v) {
+        if !self.is_linked(u, v) {
             return Err(Refusal::NotLinked);
         }
-        let counts = unlink_in::<K>(&mut *self.tables, &mut tally, n, m, u, v, list);
-        self.tally = tally;
-        Ok(counts)
+        Ok(unlink_in::<K>(&mut *self.tables, u, v, list))
     }
 
     // Links u to v, unless it closes a circle, and writes the reported places to the list. Answers how many were reported, and how many changed.
@@ -192,18 +190,13 @@ impl<K: LabelKind> Store<'_, K> {
         ensures kept { Keeps self.old self.new }
     {
         self.ends(u, v, list.len())?;
-        let n = self.n;
-        let m = self.m;
-        let mut tally = self.tally;
-        if linked_in(&*self.tables, tally, u, v) {
+        if self.is_linked(u, v) {
             return Err(Refusal::Linked);
         }
-        if count_in(&*self.tables, tally) >= m {
+        if self.count() >= self.m {
             return Err(Refusal::Full);
         }
         let row = K::passage_to_row(passage);
-        let answer = link_in::<K>(&mut *self.tables, &mut tally, n, m, u, v, row, list);
-        self.tally = tally;
-        answer
+        link_in::<K>(&mut *self.tables, u, v, row, list)
     }
 }

@@ -15,16 +15,14 @@ use discarding::discard_in;
 use kinds::LabelKind;
 use tables::read;
 
+// A call tests what its table of checks says, line by line and in that order.
 impl<K: LabelKind> Store<'_, K> {
     // Whether the permit is the one that is out.
     fn is_out(&self, permit: &Permit) -> bool
         ensures yes { result ≡ true → permit_in self.now.permit ≡ out permit.now.place.0 permit.now.day.number }
         ensures no { result ≡ false → permit_in self.now.permit ≢ out permit.now.place.0 permit.now.day.number }
     {
-        match self.permit {
-            Some(g) => permit.is_for(g.place, g.day),
-            None => false,
-        }
+        self.permit.is_some_and(|g| permit.is_for(g.place, g.day))
     }
 
     // Whether the label of a place is free on the day.
@@ -41,13 +39,7 @@ impl<K: LabelKind> Store<'_, K> {
         ensures yes { result ≡ true → Leaves (view K.means self.now).ledger.links p.0 }
         ensures no { result ≡ false → Leaves (view K.means self.now).ledger.links p.0 → ⊥ }
     {
-        let tally = self.tally;
-        links::leaves(
-            self.tables.links.as_slice(),
-            self.tables.heads.as_slice(),
-            tally,
-            p,
-        )
+        self.tables.graph.has_leaving(p)
     }
 
     // Hands out a permit to erase a place that is free on the day and that no link leaves.
@@ -115,11 +107,7 @@ impl<K: LabelKind> Store<'_, K> {
         }
         let place = permit.place();
         permit.spend();
-        let n = self.n;
-        let m = self.m;
-        let mut tally = self.tally;
-        discard_in::<K>(&mut *self.tables, &mut tally, n, m, place);
-        self.tally = tally;
+        discard_in::<K>(&mut *self.tables, place);
         self.permit = None;
         Ok(())
     }

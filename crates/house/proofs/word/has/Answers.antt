@@ -1,11 +1,7 @@
-use Rattle.std.proofs.Common.{eqb, sym, ap, ◌∙◌, arith}
-use Rattle.std.proofs.lemmas.Nat.{and_mask}
+use Rattle.std.proofs.Common.{sym, ◌∙◌, arith}
 use Rattle.std.proofs.lemmas.Bool.{le-ltb}
 use Rattle.house.specs.BitLaws.{bit_high}
 use Rattle.house.proofs.word.has.Goals as goal
-
-pub returns-then-number-lt64 : goal.returns-then-number-lt64
-returns-then-number-lt64 c = ap (λ n. eqb n 1) (and_mask _ 1)
 
 pub returns-else-number-lt64 : goal.returns-else-number-lt64
 returns-else-number-lt64 c =

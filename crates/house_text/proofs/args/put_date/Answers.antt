@@ -1,13 +1,15 @@
-use Rattle.std.proofs.Common.{ℕ, ◌+◌, ◌≤◌, List, [], ◌∷◌, length, sym, subst}
-use Rattle.parts.specs.Buffers.{Put}
-use Rattle.parts.proofs.Buffers.{put_then}
+use Rattle.std.proofs.Common.{ℕ, List, [], ◌∷◌, sym, subst}
+use Rattle.calendar.specs.Text.{day_text}
 use Rattle.house_text.proofs.args.put_date.Goals as goal
 
+pub put-requires : goal.put-requires
+put-requires g c = g.met.S.Sink.laws.first c.args.out.now (32 ∷ []) (day_text c.args.day.number) c.requires
+
+pub put-requires-2 : goal.put-requires-2
+put-requires-2 g c =
+    subst (λ (l : List ℕ). g.S.Sink.fits c.put.new.self l) (sym c.text.ensures) (g.met.S.Sink.laws.second c.args.out.now c.put.new.self (32 ∷ []) (day_text c.args.day.number) c.requires c.put.ensures)
+
 pub returns : goal.returns
-returns c =
-    let d = c.args.out.now in
-    let at = c.args.at in
-    let date = c.text-date.result in
-    let room : at + length (32 ∷ date) ≤ length d = subst (λ (l : List ℕ). at + length (32 ∷ l) ≤ length d) (sym c.text-date.ensures) c.requires in
-    subst (λ (l : List ℕ). Put d at (32 ∷ l) c.put.new.out c.put.result) c.text-date.ensures
-    (put_then (32 ∷ []) date d c.put-from.new.out c.put.new.out at c.put-from.result c.put.result room c.put-from.ensures c.put.ensures)
+returns g c =
+    g.met.S.Sink.laws.then c.args.out.now c.put.new.self c.put-2.new.self (32 ∷ []) (day_text c.args.day.number) c.put.ensures
+    (subst (λ (l : List ℕ). g.S.Sink.took c.put.new.self l c.put-2.new.self) c.text.ensures c.put-2.ensures)

@@ -1,41 +1,70 @@
-use Rattle.std.proofs.Common.{◌≡◌, ℕ, ◌+◌, ◌*◌, ◌%◌, ◌^◌, ◌<◌, ◌≤◌, length, drop, sym, refl, ◌∙◌, subst, arith}
+use Rattle.std.proofs.Common.{◌≡◌, ◌≤◌, length, drop, sym, refl, ap, ◌∙◌, subst, arith}
 use Rattle.std.proofs.lemmas.Result.{err_from_is_err_and}
-use Rattle.house_text.specs.ClaimsText.{rising}
+use Rattle.reading.specs.Reading.{bad, ok, pick, numbers}
+use Rattle.reading.specs.Agree.{flaw, rest}
+use Rattle.house_text.specs.ClaimsText.{risen}
 use Rattle.house_text.specs.RiseSteps.{rising_done, rising_more, rising_bad, rising_worse, shifted_bit, room}
 use Rattle.house_text.proofs.rising.read_any.Goals as goal
 
-pub loop-at-init : goal.loop-at-init
-loop-at-init c = (c.requires, omega arith, omega arith, (65, omega arith, refl), omega arith)
+pub loop-reader-init : goal.loop-reader-init
+loop-reader-init c = record { same = refl; after = omega arith; few = omega arith; below = omega arith; left = (65, omega arith, refl) }
 
-pub returns-in_err-p : goal.returns-in_err-p
-returns-in_err-p c =
-    let inv = c.loop-at.invariant.3 in
-    let told = c.in_err-p.ensures in
-    let e = inv.2 ∙ rising_bad inv.0 c.loop-at.low c.loop-at.set _ _ _ (omega (arith, inv.1)) (sym c.loop-at-test.ensures) told.2 in
+pub returns-in_err-mark : goal.returns-in_err-mark
+returns-in_err-mark c =
+    let l = c.loop-reader in
+    let inv = l.invariant.left in
+    let told = c.in_err-mark.ensures in
+    let f = c.in_err-mark.field-0.0 in
+    let e = inv.2 ∙ rising_bad inv.0 l.low l.set _ _ _ (omega (arith, inv.1)) (sym c.loop-reader-test.ensures) told.1.2 in
     let p = err_from_is_err_and c.from_residual.result c.from_residual.ensures.1 in
-    rw (p.1, p.2) (omega (arith, told.0, c.loop-at.invariant.4), told.1, e)
+    rw (p.1, p.2)
+    (told.0 ∙ l.invariant.same, (omega (arith, told.1.0), subst (λ b. f.at ≤ length b.now) l.invariant.same told.1.1, e ∙ ap (λ b. bad (flaw f) (drop f.at b.now)) l.invariant.same))
 
 pub returns-in_err-n : goal.returns-in_err-n
 returns-in_err-n c =
-    let inv = c.loop-at.invariant.3 in
+    let l = c.loop-reader in
+    let inv = l.invariant.left in
+    let mid = c.mark.new.self.at in
+    let space = c.in_ok-mark.ensures in
     let told = c.in_err-n.ensures.reads in
-    let e = inv.2 ∙ rising_worse inv.0 c.loop-at.low c.loop-at.set _ _ _ _ (omega (arith, inv.1)) (sym c.loop-at-test.ensures) c.in_ok-p.ensures.2 told.2 in
+    let f = c.in_err-n.field-0.0 in
+    let read : pick (numbers (risen l.low)) (drop mid l.reader.text.now) ≡ bad (flaw f) (drop f.at l.reader.text.now) =
+    subst (λ b. pick (numbers (risen l.low)) (drop mid b.now) ≡ bad (flaw f) (drop f.at b.now)) space.0 told.1.2 in
+    let e = inv.2 ∙ rising_worse inv.0 l.low l.set _ _ _ _ (omega (arith, inv.1)) (sym c.loop-reader-test.ensures) space.1.2 read in
     let p = err_from_is_err_and c.from_residual-in_err-n.result c.from_residual-in_err-n.ensures.1 in
-    rw (p.1, p.2) (omega (arith, told.0, c.loop-at.invariant.4, c.in_ok-p.ensures.0), told.1, e)
+    rw (p.1, p.2) (
+      told.0 ∙ space.0 ∙ l.invariant.same,
+      (
+        omega (arith, told.1.0, space.1.0),
+        subst (λ b. f.at ≤ length b.now) (space.0 ∙ l.invariant.same) told.1.1,
+        e ∙ ap (λ b. bad (flaw f) (drop f.at b.now)) l.invariant.same,
+      ),
+    )
 
-pub loop-at-preserved : goal.loop-at-preserved
-loop-at-preserved c =
-    let inv = c.loop-at.invariant.3 in
+pub loop-reader-preserved : goal.loop-reader-preserved
+loop-reader-preserved c =
+    let l = c.loop-reader in
+    let inv = l.invariant.left in
     let n = c.in_ok-n.n in
+    let mid = c.mark.new.self.at in
+    let end = c.take_claim.new.reader in
+    let space = c.in_ok-mark.ensures in
     let told = c.in_ok-n.ensures.reads in
     let range = c.in_ok-n.ensures.range in
-    let more = rising_more inv.0 c.loop-at.low c.loop-at.set n _ _ _ (omega (arith, inv.1)) (sym c.loop-at-test.ensures) c.in_ok-p.ensures.2 told.2 in
-    let b : 2 ^ n ≡ (1 * 2 ^ n) % 18446744073709551616 = shifted_bit n range.1 in
-    let t = c.args.text.now in
-    subst (λ (v : ℕ). (c.in_ok-n.q ≤ length t) × (n + 1 ≤ 64) × (c.loop-at.set + v < 2 ^ (n + 1)) × ((x : ℕ) × (65 ≤ x + (n + 1)) × (rising 65 0 0 (drop c.args.at t) ≡ rising x (n + 1) (c.loop-at.set + v) (drop c.in_ok-n.q t))) × (c.args.at ≤ c.in_ok-n.q)) b
-    (told.1, omega (arith, range.1), room c.loop-at.set c.loop-at.low n c.loop-at.invariant.2 range.0, (more.0, omega (arith, more.1, inv.1, range.0), inv.2 ∙ more.2), omega (arith, told.0, c.in_ok-p.ensures.0, c.loop-at.invariant.4))
+    let read : pick (numbers (risen l.low)) (drop mid l.reader.text.now) ≡ ok n (rest end) =
+    subst (λ b. pick (numbers (risen l.low)) (drop mid b.now) ≡ ok n (rest end)) space.0 (told.1.2 ∙ ap (λ b. ok n (drop end.at b.now)) (sym told.0)) in
+    let more = rising_more inv.0 l.low l.set n _ _ _ (omega (arith, inv.1)) (sym c.loop-reader-test.ensures) space.1.2 read in
+    rw (← shifted_bit n range.1) record {
+      same = told.0 ∙ space.0 ∙ l.invariant.same;
+      after = omega (arith, told.1.0, space.1.0, l.invariant.after);
+      few = omega (arith, range.1);
+      below = room l.set l.low n l.invariant.below range.0;
+      left = (more.0, omega (arith, more.1, inv.1, range.0), inv.2 ∙ more.2);
+    }
 
 pub returns : goal.returns
 returns c =
-    let inv = c.loop-at.invariant.3 in
-    (c.loop-at.invariant.4, c.loop-at.invariant.0, inv.2 ∙ rising_done inv.0 c.loop-at.low c.loop-at.set _ (omega (arith, inv.1)) (sym c.loop-at-test.ensures))
+    let l = c.loop-reader in
+    let inv = l.invariant.left in
+    let h = l.reader.inside in
+    (l.invariant.same, (omega arith, subst (λ b. l.reader.at ≤ length b.now) l.invariant.same h, inv.2 ∙ rising_done inv.0 l.low l.set _ (omega (arith, inv.1)) (sym c.loop-reader-test.ensures) ∙ ap (λ b. ok l.set (drop l.reader.at b.now)) l.invariant.same))

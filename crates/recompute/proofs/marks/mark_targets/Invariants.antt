@@ -1,17 +1,18 @@
-use Rattle.std.proofs.Common.{◌≡◌, ℕ, ◌≤◌, ◌⊎◌, length, get_or}
+use Rattle.std.proofs.Common.{◌≡◌, ℕ, ◌≤◌, ◌⊎◌, get_or}
 use Rattle.links.specs.declared.row.Side.TheVariants.{Leaving}
-use Rattle.links.specs.Table.{ahead, Leads, links, Lowest}
-use Rattle.links.specs.Links.{Walked}
+use Rattle.links.specs.Table.{Leads}
+use Rattle.links.specs.LinksAt.{rest}
 use Rattle.order.specs.Tables.{rank_in}
+use Rattle.order.specs.Graph.{linked, ranks_of}
+use Rattle.recompute.proofs.Passing.{Passed}
 use Rattle.recompute.proofs.marks.mark_targets.Given as goal
 
-abbrev pub invariant-loop-at : goal.invariant-loop-at
-invariant-loop-at g l =
-    (p : ℕ) → Lowest Leaving l.rows p 0 l.initial.at →
-    Walked Leaving l.rows p (λ x. (get_or l.marks x.target.0 0 ≡ 1) × (rank_in l.rank_of x.target.0 ≤ l.top.0)) l.at ×
-    ((q : ℕ) → (get_or l.marks q 0 ≡ get_or l.initial.marks q 0) ⊎ ((get_or l.marks q 0 ≡ 1) × Leads (links l.rows) p q)) ×
-    (l.initial.top.0 ≤ l.top.0) ×
-    ((l.top.0 ≡ l.initial.top.0) ⊎ ((q : ℕ) × Leads (links l.rows) p q × (l.top.0 ≡ rank_in l.rank_of q)))
-
-abbrev pub decreases-loop-at : goal.decreases-loop-at
-decreases-loop-at g l = ahead Leaving l.rows (length l.heads) l.at
+abbrev pub invariant-loop-l : goal.invariant-loop-l
+invariant-loop-l g l =
+    let marks = l.marks.bytes.now in
+    (goal.iterator-loop-l g).can_next l.l-iterator × (goal.iterator-loop-l g).is_finite l.l-iterator
+    × Passed Leaving (linked l.graph) l.fn.p.0 (rest l.l-iterator) (λ x. (get_or marks x.target.0 0 ≡ 1) × (rank_in (ranks_of l.graph) x.target.0 ≤ l.top.0))
+    × ((q : ℕ) → (get_or marks q 0 ≡ get_or l.initial.marks.bytes.now q 0) ⊎ ((get_or marks q 0 ≡ 1) × Leads (linked l.graph) l.fn.p.0 q))
+    × (l.initial.top.0 ≤ l.top.0)
+    × ((l.top.0 ≡ l.initial.top.0) ⊎ ((q : ℕ) × Leads (linked l.graph) l.fn.p.0 q × (l.top.0 ≡ rank_in (ranks_of l.graph) q)))
+    × (l.marks.n ≡ l.initial.marks.n) × (l.marks.bytes.ghost_name ≡ l.initial.marks.bytes.ghost_name)

@@ -1,29 +1,20 @@
-use Rattle.std.proofs.Common.{◌≡◌, length, arith}
-use Rattle.links.specs.Table.{links}
-use Rattle.order.proofs.Bytes.{restored}
-use Rattle.order.proofs.Props.{opened}
+use Rattle.std.proofs.Common.{◌≡◌, length, arith, rules}
+use Rattle.order.specs.Graph.{size, linked, ranks_of, order_of}
+use Rattle.order.proofs.Bytes.{restored_by}
+use Rattle.order.proofs.Graphs.{sound_of}
 use Rattle.recompute.proofs.Ends.{ends}
 use Rattle.recompute.proofs.walk.recompute.Goals as goal
 
-pub walk-climb-requires : goal.walk-climb-requires
-walk-climb-requires g c =
-    record {
-      kept = c.requires.kept;
-      sound = opened c.args.n c.args.rank_of.now c.args.place_at.now (links c.args.rows.now) c.requires.ordered;
-      sizes = c.requires.sizes;
-      place = c.requires.place;
-      clean = c.requires.clean;
-    }
-
-pub returns : goal.returns
-returns g c =
-    let m = g.K.LabelKind.means in
+pub returns-clause-recomputes : goal.returns-clause-recomputes
+returns-clause-recomputes g c =
+    let G = c.args.graph.now in
     let w = c.walk-climb.ensures in
-    let long : length c.walk-climb.new.marks ≡ length c.args.marks.now = c.walk-climb.auto.marks in
     let list : length c.walk-climb.new.list ≡ length c.args.list.now = c.walk-climb.auto.list in
-    record {
-      recomputes = ends m g.met.K.LabelKind.lawful.laws c.args.n c.args.own.now c.args.rank_of.now c.args.place_at.now c.args.rows.now (opened c.args.n c.args.rank_of.now c.args.place_at.now (links c.args.rows.now) c.requires.ordered) c.args.e.0 c.args.labels.now c.requires.place
-          c.walk-climb.result c.walk-climb.new.labels c.walk-climb.new.marks c.walk-climb.new.list (omega (arith, w.room, c.requires.sizes, list)) w.climbed;
-      marks = restored c.args.n c.args.marks.now c.walk-climb.new.marks c.drop-g.new.self.0 c.requires.clean w.beyond long c.drop-g.ensures;
-      rest = w.rest;
-    }
+    ends g.K.LabelKind.means g.met.K.LabelKind.lawful.laws (size G) c.args.own.now (ranks_of G) (order_of G) (linked G) (sound_of G) c.args.e.0 c.args.labels.now c.requires.place
+    c.walk-climb.result c.walk-climb.new.labels c.walk-climb.new.marks.bytes.now c.walk-climb.new.list (omega (arith, w.room, c.requires.sizes, list)) w.climbed
+
+pub returns-clause-marks : goal.returns-clause-marks
+returns-clause-marks g c =
+    let r : c.drop-marked.new.self.0 ≡ c.args.marks.now =
+    restored_by c.walk-climb.new.marks.n (size c.args.graph.now) c.args.marks.now c.walk-climb.new.marks.bytes.now _ (search rules) c.requires.clean c.walk-climb.ensures.beyond (search rules) c.drop-marked.ensures in
+    search rules

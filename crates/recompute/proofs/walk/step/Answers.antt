@@ -1,153 +1,83 @@
-use Rattle.std.proofs.Common.{◌≡◌, ℕ, ◌+◌, ◌<◌, get_or, set, sym, refl, ap, ◌∙◌, ⊎_elim, arith}
-use Rattle.std.proofs.lemmas.List.{drop-set-lt}
+use Rattle.std.proofs.Common.{◌≡◌, ℕ, ◌<◌, get_or, set, sym, ap, ◌∙◌, ⊎_elim, arith}
 use Rattle.std.proofs.lemmas.Bool.{eqb-true, eqb-false}
-use Rattle.links.proofs.Ties.{leads_of}
-use Rattle.links.specs.Table.{links}
-use Rattle.order.specs.Tables.{rank_in, place_in}
+use Rattle.order.specs.Tables.{rank_in, is_set}
+use Rattle.order.specs.Graph.{size, linked, ranks_of, order_of}
+use Rattle.order.proofs.Bytes.{marked_is}
+use Rattle.order.proofs.Graphs.{sound_of, linked_inside}
+use Rattle.order.proofs.Ways.{sound_rank}
 use Rattle.recompute.proofs.Rows.{one_told}
-use Rattle.recompute.proofs.Grounds.{place_low, place_rank, place_only, rank_low, rising, within}
+use Rattle.recompute.proofs.Grounds.{place_rank, place_only, rising, within}
 use Rattle.recompute.proofs.Steps.{passed, stayed, turned}
+use Rattle.recompute.proofs.walk.step.Given as Given
 use Rattle.recompute.proofs.walk.step.Goals as goal
+use Rattle.recompute.proofs.walk.step.Goals.{After-has}
 
-pub is_marked-requires : goal.is_marked-requires
-is_marked-requires g c =
-    let n = c.args.n in
-    let ranks = c.args.rank_of.now in
-    let places = c.args.place_at.now in
-    let rows = c.args.rows.now in
-    let sound = c.requires.sound in
-    let r = c.args.r.0 in
-    let p = c.place_with-p.result.0 in
-    let is : p ≡ place_in places r = c.place_with-p.ensures in
-    let below : p < n = omega (arith, place_low n ranks places rows sound r c.requires.rank) in
-    omega (arith, c.requires.sizes.1.1.1)
+-- the place at hand: it alone has the rank r, and its mark is set exactly when the guard says so
+at : (g : Given.Over) (c : After-has g) → rank_in (ranks_of c.args.graph.now) c.place-p.result.0 ≡ c.args.r.0
+at g c =
+    let G = c.args.graph.now in
+    ap (rank_in (ranks_of G)) c.place-p.ensures.at ∙ place_rank (size G) (ranks_of G) (order_of G) (linked G) (sound_of G) c.args.r.0 c.requires.rank
 
-pub relabel-requires : goal.relabel-requires
-relabel-requires g c =
-    let n = c.args.n in
-    let ranks = c.args.rank_of.now in
-    let places = c.args.place_at.now in
-    let rows = c.args.rows.now in
-    let sound = c.requires.sound in
-    let r = c.args.r.0 in
-    let p = c.place_with-p.result.0 in
-    let is : p ≡ place_in places r = c.place_with-p.ensures in
-    let below : p < n = omega (arith, place_low n ranks places rows sound r c.requires.rank) in
-    let s = c.requires.sizes in
-    record { kept = c.requires.kept; inside = sound.inside; sizes = (s.0, (s.1.0, s.1.1.0)); place = below }
+only : (g : Given.Over) (c : After-has g) → (q : ℕ) → q < size c.args.graph.now → rank_in (ranks_of c.args.graph.now) q ≡ c.args.r.0 → q ≡ c.place-p.result.0
+only g c q b e =
+    let G = c.args.graph.now in
+    place_only (size G) (ranks_of G) (order_of G) (linked G) (sound_of G) c.args.r.0 q c.requires.rank b e ∙ sym c.place-p.ensures.at
 
-pub mark_targets-last-requires : goal.mark_targets-last-requires
-mark_targets-last-requires g c =
-    let n = c.args.n in
-    let ranks = c.args.rank_of.now in
-    let places = c.args.place_at.now in
-    let rows = c.args.rows.now in
-    let sound = c.requires.sound in
-    let r = c.args.r.0 in
-    let p = c.place_with-p.result.0 in
-    let is : p ≡ place_in places r = c.place_with-p.ensures in
-    let below : p < n = omega (arith, place_low n ranks places rows sound r c.requires.rank) in
-    let s = c.requires.sizes in
-    record { kept = c.requires.kept; inside = sound.inside; sizes = (s.1.1.0, (sound.long, s.1.1.1)); place = below }
+mark : (g : Given.Over) (c : After-has g) → is_set c.args.marks.now.bytes.now c.place-p.result.0 ≡ c.has.result
+mark g c =
+    sym (marked_is c.args.marks.now.n c.args.marks.now.bytes.now c.place-p.result.0 (let l = (c.place-p.ensures.inside c.requires.rank) in omega (arith, c.requires.places))) ∙ sym c.has.ensures
 
-pub returns-then-not-is_marked : goal.returns-then-not-is_marked
-returns-then-not-is_marked g c =
-    let n = c.args.n in
-    let ranks = c.args.rank_of.now in
-    let places = c.args.place_at.now in
-    let rows = c.args.rows.now in
-    let sound = c.requires.sound in
-    let r = c.args.r.0 in
-    let p = c.place_with-p.result.0 in
-    let is : p ≡ place_in places r = c.place_with-p.ensures in
-    let below : p < n = omega (arith, place_low n ranks places rows sound r c.requires.rank) in
+pub returns-then-not-has-clause-climbed : goal.returns-then-not-has-clause-climbed
+returns-then-not-has-clause-climbed g c =
+    let G = c.args.graph.now in
+    let s = sound_of G in
+    let a = (goal.at.returns-then-not-has-clause-climbed g c).After-has in
     let m = g.K.LabelKind.means in
-    let laws = g.met.K.LabelKind.lawful.laws in
-    let own = c.args.own.now in
-    let climb = c.args.climb in
-    let labels = c.args.labels.now in
-    let marks = c.args.marks.now in
-    let list = c.args.list.now in
-    let at : rank_in ranks p ≡ r = ap (rank_in ranks) is ∙ place_rank n ranks places rows sound r c.requires.rank in
-    let only : (q : ℕ) → q < n → rank_in ranks q ≡ r → q ≡ p = λ q b e. place_only n ranks places rows sound r q c.requires.rank b e ∙ sym is in
-    let up = rising m n ranks rows sound.rising in
-    let ins = within m n ranks rows sound.inside in
-    let not_marked : get_or marks p 0 ≡ 1 → ⊥ = eqb-false (get_or marks p 0) 1 (sym c.is_marked.ensures ∙ c.if-not-is_marked.true) in
-    record {
-      climbed = λ e before h w. passed m laws n own ranks rows e before up ins r p below at only climb labels marks list not_marked w;
-      rest = refl;
-      beyond = λ k h. refl;
-      counts = (c.requires.room.1.0, (omega arith, (omega arith, c.requires.room.1.1)));
-    }
+    let p = c.place-p.result.0 in
+    let not_marked : get_or c.args.marks.now.bytes.now p 0 ≡ 1 → ⊥ = eqb-false (get_or c.args.marks.now.bytes.now p 0) 1 (mark g a ∙ c.if-not-has.true) in
+    λ e before h w. passed m g.met.K.LabelKind.lawful.laws (size G) c.args.own.now (ranks_of G) (linked G) e before (rising m (size G) (ranks_of G) (linked G) s.rising) (within m (size G) (ranks_of G) (linked G) s.inside)
+    c.args.r.0 p (c.place-p.ensures.inside c.requires.rank) (at g a) (only g a) c.args.climb c.args.labels.now c.args.marks.now.bytes.now c.args.list.now not_marked w
 
-pub returns-then-not-relabel : goal.returns-then-not-relabel
-returns-then-not-relabel g c =
-    let n = c.args.n in
-    let ranks = c.args.rank_of.now in
-    let places = c.args.place_at.now in
-    let rows = c.args.rows.now in
-    let sound = c.requires.sound in
-    let r = c.args.r.0 in
-    let p = c.place_with-p.result.0 in
-    let is : p ≡ place_in places r = c.place_with-p.ensures in
-    let below : p < n = omega (arith, place_low n ranks places rows sound r c.requires.rank) in
+pub returns-then-not-relabel-clause-climbed : goal.returns-then-not-relabel-clause-climbed
+returns-then-not-relabel-clause-climbed g c =
+    let G = c.args.graph.now in
+    let s = sound_of G in
+    let a = (goal.at.returns-then-not-relabel-clause-climbed g c).After-has in
     let m = g.K.LabelKind.means in
-    let laws = g.met.K.LabelKind.lawful.laws in
-    let own = c.args.own.now in
+    let p = c.place-p.result.0 in
     let climb = c.args.climb in
-    let labels = c.args.labels.now in
-    let marks = c.args.marks.now in
     let list = c.args.list.now in
-    let at : rank_in ranks p ≡ r = ap (rank_in ranks) is ∙ place_rank n ranks places rows sound r c.requires.rank in
-    let only : (q : ℕ) → q < n → rank_in ranks q ≡ r → q ≡ p = λ q b e. place_only n ranks places rows sound r q c.requires.rank b e ∙ sym is in
-    let up = rising m n ranks rows sound.rising in
-    let ins = within m n ranks rows sound.inside in
-    let marked : get_or marks p 0 ≡ 1 = eqb-true (get_or marks p 0) 1 (sym c.is_marked.ensures ∙ c.if-not-is_marked.false) in
-    let told = one_told list climb.reported c.place_with-p.result c.requires.room.0 in
-    let rest = drop-set-lt (climb.reported + 1) list climb.reported c.place_with-p.result (omega arith) in
-    record {
-      climbed = λ e before h w. stayed m laws n own ranks rows e before up ins r p below at only climb labels c.relabel.new.labels marks list (set list climb.reported c.place_with-p.result) marked c.relabel.ensures.put told w (c.relabel.ensures.kept c.if-not-relabel.true);
-      rest = rest;
-      beyond = λ k h. refl;
-      counts = (omega (arith, c.requires.room.1.0), (omega arith, (omega arith, c.requires.room.1.1)));
-    }
+    let marked : get_or c.args.marks.now.bytes.now p 0 ≡ 1 = eqb-true (get_or c.args.marks.now.bytes.now p 0) 1 (mark g a ∙ c.if-not-has.false) in
+    λ e before h w. stayed m g.met.K.LabelKind.lawful.laws (size G) c.args.own.now (ranks_of G) (linked G) e before (rising m (size G) (ranks_of G) (linked G) s.rising) (within m (size G) (ranks_of G) (linked G) s.inside)
+    c.args.r.0 p (c.place-p.ensures.inside c.requires.rank) (at g a) (only g a) climb c.args.labels.now c.relabel.new.labels c.args.marks.now.bytes.now list (set list climb.reported c.place-p.result) marked
+    c.relabel.ensures.put (one_told list climb.reported c.place-p.result c.requires.room.0) w (c.relabel.ensures.kept c.if-not-relabel.true)
 
-pub returns : goal.returns
-returns g c =
-    let n = c.args.n in
-    let ranks = c.args.rank_of.now in
-    let places = c.args.place_at.now in
-    let rows = c.args.rows.now in
-    let sound = c.requires.sound in
-    let r = c.args.r.0 in
-    let p = c.place_with-p.result.0 in
-    let is : p ≡ place_in places r = c.place_with-p.ensures in
-    let below : p < n = omega (arith, place_low n ranks places rows sound r c.requires.rank) in
+pub returns-clause-climbed : goal.returns-clause-climbed
+returns-clause-climbed g c =
+    let G = c.args.graph.now in
+    let s = sound_of G in
+    let a = (goal.at.returns-clause-climbed g c).After-has in
     let m = g.K.LabelKind.means in
-    let laws = g.met.K.LabelKind.lawful.laws in
-    let own = c.args.own.now in
+    let p = c.place-p.result.0 in
     let climb = c.args.climb in
-    let labels = c.args.labels.now in
-    let marks = c.args.marks.now in
     let list = c.args.list.now in
-    let at : rank_in ranks p ≡ r = ap (rank_in ranks) is ∙ place_rank n ranks places rows sound r c.requires.rank in
-    let only : (q : ℕ) → q < n → rank_in ranks q ≡ r → q ≡ p = λ q b e. place_only n ranks places rows sound r q c.requires.rank b e ∙ sym is in
-    let up = rising m n ranks rows sound.rising in
-    let ins = within m n ranks rows sound.inside in
-    let marked : get_or marks p 0 ≡ 1 = eqb-true (get_or marks p 0) 1 (sym c.is_marked.ensures ∙ c.if-not-is_marked.false) in
-    let told = one_told list climb.reported c.place_with-p.result c.requires.room.0 in
-    let rest = drop-set-lt (climb.reported + 1) list climb.reported c.place_with-p.result (omega arith) in
     let t = c.mark_targets-last.ensures in
-    let last = c.mark_targets-last.result in
-    let marks' = c.mark_targets-last.new.marks in
-    let high : last.0 < n =
+    let marked : get_or c.args.marks.now.bytes.now p 0 ≡ 1 = eqb-true (get_or c.args.marks.now.bytes.now p 0) 1 (mark g a ∙ c.if-not-has.false) in
+    λ e before h w. turned m g.met.K.LabelKind.lawful.laws (size G) c.args.own.now (ranks_of G) (linked G) e before (rising m (size G) (ranks_of G) (linked G) s.rising) (within m (size G) (ranks_of G) (linked G) s.inside)
+    c.args.r.0 p (c.place-p.ensures.inside c.requires.rank) (at g a) (only g a) climb c.args.labels.now c.relabel.new.labels c.args.marks.now.bytes.now list (set list climb.reported c.place-p.result) marked
+    c.relabel.ensures.put (one_told list climb.reported c.place-p.result c.requires.room.0) w
+    c.mark_targets-last.new.marks.bytes.now c.mark_targets-last.result (c.relabel.ensures.changed c.if-not-relabel.false) t.all t.only t.rises
+
+pub returns-clause-beyond : goal.returns-clause-beyond
+returns-clause-beyond g c =
+    λ k h. ⊎_elim (λ e. e) (λ d. let b = (linked_inside c.args.graph.now d.1.0 d.1.1).1 in absurd (omega (arith, b, d.1.3))) (c.mark_targets-last.ensures.only k)
+
+pub returns-clause-counts : goal.returns-clause-counts
+returns-clause-counts g c =
+    let G = c.args.graph.now in
+    let n = size G in
+    let high : c.mark_targets-last.result.0 < n =
     ⊎_elim (λ e. omega (arith, e, c.requires.room.1.1))
-    (λ d. let b = (sound.inside _ _ _ (leads_of (λ q. q) (links rows) d.1.0 d.1.1)).1 in
-    let k = rank_low n ranks places rows sound d.0 (omega (arith, b, d.1.3)) in omega (arith, k, d.2)) t.reach in
-    record {
-      climbed = λ e before h w. turned m laws n own ranks rows e before up ins r p below at only climb labels c.relabel.new.labels marks list (set list climb.reported c.place_with-p.result) marked c.relabel.ensures.put told w
-          marks' last (c.relabel.ensures.changed c.if-not-relabel.false) t.all t.only t.rises;
-      rest = rest;
-      beyond = λ k h. ⊎_elim (λ e. e) (λ d. let b = (sound.inside _ _ _ (leads_of (λ q. q) (links rows) d.1.0 d.1.1)).1 in absurd (omega (arith, b, d.1.3))) (t.only k);
-      counts = (omega (arith, c.requires.room.1.0), (omega arith, (omega arith, high)));
-    }
+    (λ d. let b = (linked_inside G d.1.0 d.1.1).1 in
+    let k = sound_rank n (ranks_of G) (order_of G) (linked G) (sound_of G) d.0 (omega (arith, b, d.1.3)) in omega (arith, k, d.2)) c.mark_targets-last.ensures.reach in
+    (omega (arith, c.requires.room.1.0), (omega arith, (omega arith, high)))

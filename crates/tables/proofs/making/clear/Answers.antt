@@ -1,8 +1,8 @@
-use Rattle.std.proofs.Common.{◌≡◌, ◌^◌, ◌<◌, ◌≤◌, false, List, length, sym, refl, ap, ◌∙◌, subst, arith}
-use Rattle.links.specs.declared.row.Link.{Link}
-use Rattle.order.specs.Tables.{Ordered}
-use Rattle.order.proofs.Stays.{keeps_order}
-use Rattle.tables.proofs.Columns.{column_flat, filled_clean, first_order}
+use Rattle.std.proofs.Common.{◌≡◌, false, length, take, drop, refl, ap, ◌∙◌, rules, arith}
+use Rattle.std.proofs.lemmas.List.{with_items_is}
+use Rattle.order.specs.Graph.{order_of}
+use Rattle.order.proofs.Graphs.{sound_of}
+use Rattle.tables.proofs.Columns.{column_flat, first_order}
 use Rattle.tables.proofs.making.clear.Goals as goal
 
 pub returns : goal.returns
@@ -10,32 +10,21 @@ returns g c =
     let n = c.args.n in
     let means = g.K.LabelKind.means in
     let old = c.args.tables.now in
-    let limits = c.requires.limits in
     let room = c.requires.room in
-    let ranks = c.number.new.ranks in
-    let order = c.number.new.order in
-    let links = c.unlink_all.ensures in
-    let blank : means.value (means.stands c.to_row-row.result) ≡ means.kind.empty = ap means.value c.to_row-row.ensures ∙ c.empty.ensures in
-    let few : c.args.n < 2 ^ 31 = omega (arith, limits.1) in
-    let long : c.args.n ≤ length ranks.items = omega (arith, room.1.0.0, ranks.ok.0, c.number.ensures.sizes.0) in
-    let wide : c.args.n ≤ length order.items = omega (arith, room.1.0.1, order.ok.0, c.number.ensures.sizes.1) in
-    let present : c.args.n ≤ c.fill.new.table.len = omega (arith, room.0.0.0, old.present.ok.0, c.fill.new.table.ok.0, c.fill.ensures.long) in
-    let own : c.args.n ≤ c.fill-2.new.table.len = omega (arith, room.0.1.0, old.own.ok.0, c.fill-2.new.table.ok.0, c.fill-2.ensures.long) in
-    let labels : c.args.n ≤ c.fill-3.new.table.len = omega (arith, room.0.1.1, old.labels.ok.0, c.fill-3.new.table.ok.0, c.fill-3.ensures.long) in
-    let marks : c.args.n ≤ c.fill-4.new.table.len = omega (arith, room.0.0.1, old.marks.ok.0, c.fill-4.new.table.ok.0, c.fill-4.ensures.long) in
+    let G = c.reset.new.self in
+    let row = c.to_row-row.result in
+    let blank : means.value (means.stands row) ≡ means.kind.empty = ap means.value c.to_row-row.ensures ∙ c.empty.ensures in
+    let present = with_items_is old.present c.fill.new.table (search rules) in
+    let own = with_items_is old.own c.fill-2.new.table (search rules) in
+    let labels = with_items_is old.labels c.fill-3.new.table (search rules) in
+    let marks = with_items_is old.marks c.fill-4.new.table (search rules) in
     record {
-      room = (
-        ((present, marks), (own, labels)),
-        ((omega (arith, long, ranks.ok.0), omega (arith, wide, order.ok.0)), (omega (arith, room.1.1.0, links.sizes.1), omega (arith, room.1.1.1, links.sizes.0))),
-      );
-      present = column_flat (λ b. b) false n c.fill.new.table.items false c.fill.ensures.front refl;
-      own = column_flat (λ r. means.value (means.stands r)) means.kind.empty n c.fill-2.new.table.items c.to_row-row.result c.fill-2.ensures.front blank;
-      labels = column_flat (λ r. means.value (means.stands r)) means.kind.empty n c.fill-3.new.table.items c.to_row-row.result c.fill-3.ensures.front blank;
-      order = first_order n order.items wide c.number.ensures.places;
-      ordered = subst (λ (ls : List (Link g.row.K-PassageRow.Denot)). Ordered n ranks.items order.items ls) (sym links.empty)
-          ((keeps_order g.row.K-PassageRow.Denot).first n ranks.items order.items few long wide c.number.ensures.ranks c.number.ensures.places);
-      kept = links.kept;
-      unlinked = links.empty;
-      clean = filled_clean n old.marks.items c.fill-4.new.table.items c.fill-4.ensures;
-      past = c.fill-4.ensures.back;
+      room = (room.0, c.reset.ensures.room n c.args.m room.1);
+      places = c.reset.ensures.places;
+      present = column_flat (λ b. b) false n _ false (ap (take n) present ∙ c.fill.ensures.front) refl;
+      own = column_flat (λ r. means.value (means.stands r)) means.kind.empty n _ row (ap (take n) own ∙ c.fill-2.ensures.front) blank;
+      labels = column_flat (λ r. means.value (means.stands r)) means.kind.empty n _ row (ap (take n) labels ∙ c.fill-3.ensures.front) blank;
+      order = first_order n (order_of G) (let w = (sound_of G).wide in omega (arith, c.reset.ensures.places)) c.reset.ensures.order;
+      unlinked = c.reset.ensures.links;
+      past = ap (drop n) marks ∙ c.fill-4.ensures.back ∙ ap (drop n) c.as_mut_slice-4.ensures.value;
     }

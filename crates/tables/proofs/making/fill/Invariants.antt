@@ -1,6 +1,5 @@
-use Rattle.std.proofs.Common.{vec_items}
 use Rattle.tables.specs.Fill.{Filled}
 use Rattle.tables.proofs.making.fill.Given as goal
 
-abbrev pub invariant-loop-i : goal.invariant-loop-i
-invariant-loop-i g l = Filled l.i l.x (vec_items l.initial.table) (vec_items l.table)
+abbrev pub invariant-loop-entry : goal.invariant-loop-entry
+invariant-loop-entry g l = Filled l.entry-index l.x l.initial.entry-items l.entry-items

@@ -1,20 +1,22 @@
 use Rattle.std.proofs.Common.{◌≡◌, ℕ, ◌<◌, false, Some, None, Option, sym, refl, ap, subst, arith}
 use Rattle.std.proofs.lemmas.Bool.{both_ways}
 use Rattle.paths.specs.Ledger.{Ledger}
-use Rattle.paths.specs.Calls.{next}
+use Rattle.paths.specs.Calls.{next, put}
 use Rattle.paths.specs.Calls as ledger
-use Rattle.links.specs.Table.{links}
 use Rattle.links.proofs.Ties.{follows}
 use Rattle.law.specs.Calls.{Permit, none, out, is_out}
 use Rattle.law.specs.State.{Same}
 use Rattle.order.specs.Tables.{order_in}
+use Rattle.order.specs.Graph.{linked}
 use Rattle.recompute.specs.Tables.{value_in, arrows_in}
-use Rattle.tables.specs.Columns.{present_in}
+use Rattle.tables.specs.Columns.{present_in, values_in}
+use Rattle.tables.specs.View.{links_of}
 use Rattle.discarding.specs.Discarded.{Discarded}
 use Rattle.store.specs.declared.grant.Grant.{Grant}
 use Rattle.store.specs.Held.{HoldsPlace}
-use Rattle.store.specs.View.{permit_in, links_of, view}
-use Rattle.store.proofs.Edits.{links_are, same_by, alike_eq}
+use Rattle.store.specs.View.{permit_in, view}
+use Rattle.tables.proofs.Views.{links_are}
+use Rattle.store.proofs.Edits.{same_by, alike_eq}
 use Rattle.store.proofs.store.Store.discard.Goals as goal
 
 abbrev place_of : Permit → ℕ
@@ -36,21 +38,27 @@ returns-clause-told g c =
     let n = self.n in
     let old = self.tables.now in
     let new = c.discard_in.new.t in
+    let xs = linked old.graph in
+    let ys = linked new.graph in
     let p = c.args.permit.place.0 in
     let ours : permit_in self.permit ≡ out p c.args.permit.day.number = c.is_out.ensures.yes c.if-not-is_out.false in
     let some : 0 < n = let l = held_some self.permit n p c.args.permit.day.number self.held ours in omega (arith, l) in
-    let e = subst (λ (q : ℕ). Discarded m n self.m q old new c.discard_in.new.tally) (ap (λ x. x.0) c.place-place.ensures) c.discard_in.ensures in
-    let are : links_of m n old.links.items ≡ arrows_in m old.links.items = links_are m n old.links.items some in
-    let are' : links_of m n new.links.items ≡ arrows_in m new.links.items = links_are m n new.links.items some in
+    let at = self.places some in
+    let e = subst (λ (q : ℕ). Discarded m q old new) (ap (λ x. x.0) c.place-place.ensures) c.discard_in.ensures in
+    let present = subst (λ j. (q : ℕ) → present_in j new.present.items q ≡ put (present_in j old.present.items) p false q) at e.present in
+    let own = subst (λ j. (q : ℕ) → values_in m j new.own.items q ≡ put (values_in m j old.own.items) p k.empty q) at e.own in
+    let labels = subst (λ j. (q : ℕ) → values_in m j new.labels.items q ≡ put (values_in m j old.labels.items) p k.empty q) at e.labels in
+    let are : links_of m n xs ≡ arrows_in m xs = links_are m n xs some in
+    let are' : links_of m n ys ≡ arrows_in m ys = links_are m n ys some in
     let before : Ledger V P = (view m self).ledger in
-    let after : Ledger V P = record { present = present_in n new.present.items; own = value_in m n new.own.items; links = links_of m n new.links.items } in
+    let after : Ledger V P = record { present = present_in n new.present.items; own = value_in m n new.own.items; links = links_of m n ys } in
     let cut : Ledger V P = next k before (ledger.discard p) in
-    let alike = (follows g.row.K-PassageRow.Denot V P).shuts k before m.leads (links old.links.items) (links new.links.items) p e.shut (alike_eq (arrows_in m old.links.items) before.links (sym are)) in
-    let same : Same after cut = same_by cut after (arrows_in m new.links.items) e.present e.own are' alike in
+    let alike = (follows g.row.K-PassageRow.Denot V P).shuts k before m.leads xs ys p e.shut (alike_eq (arrows_in m xs) before.links (sym are)) in
+    let same : Same after cut = same_by cut after (arrows_in m ys) present own are' alike in
     record {
       passed = (λ other. other ours, tt);
       turns = record {
-        does = record { places = refl; limit = refl; ledger = same; order = ap (λ v. order_in n v.items) e.order; permit = refl };
-        labels = e.labels;
+        does = record { places = refl; limit = refl; ledger = same; order = ap (λ v. order_in n v.items) e.ranks.1; permit = refl };
+        labels = labels;
       };
     }

@@ -1,27 +1,32 @@
 use Rattle.std.proofs.Common.{◌≡◌, ℕ, ◌<◌, List, length, take, filter, sym, refl, ap, ◌∙◌, subst, arith}
-use borrow.Author.Tests.{both_ways}
+use Rattle.std.proofs.lemmas.Bool.{both_ways}
 use Rattle.paths.specs.Ledger.{Link, Ledger, Leads}
 use Rattle.paths.specs.Order.{rank_in}
-use Rattle.paths.specs.Walk.{Recomputed}
+use Rattle.paths.specs.Walk.{Put, Recomputed}
 use Rattle.law.specs.Calls.{is_out}
-use Rattle.links.specs.Table.{links}
-use Rattle.order.specs.Tables.{order_in}
+use Rattle.order.specs.Tables.{order_in, Sound}
 use Rattle.order.specs.Tables as table
-use Rattle.order.proofs.Props.{opened}
-use Rattle.recompute.specs.Tables.{numbers, value_in, arrows_in}
+use Rattle.order.specs.Graph.{linked, ranks_of, order_of}
+use Rattle.order.proofs.Graphs.{sound_of}
+use Rattle.recompute.specs.Tables.{numbers, value_in, arrows_in, Recomputes}
 use Rattle.recompute.proofs.Grounds.{rising}
 use Rattle.tables.specs.Columns.{present_in}
-use Rattle.store.specs.View.{permit_in, links_of, view}
-use Rattle.store.proofs.Edits.{links_are, settled, put_is}
+use Rattle.tables.specs.View.{links_of}
+use Rattle.store.specs.View.{permit_in, view}
+use Rattle.tables.proofs.Views.{links_are}
+use Rattle.store.proofs.Edits.{settled, put_is}
 use Rattle.store.proofs.store.Store.own.Goals as goal
 
-pub returns : goal.returns
-returns g c =
+pub returns-clause-told : goal.returns-clause-told
+returns-clause-told g c =
     let m = g.K.LabelKind.means in
+    let P = g.row.K-Passage.Denot in
     let self = c.args.self.now in
     let n = self.n in
     let old = self.tables.now in
     let new = c.own_in.new.t in
+    let xs = linked old.graph in
+    let ranks = ranks_of old.graph in
     let p = c.args.p.0 in
     let x = m.value c.args.label in
     let list = c.own_in.new.list in
@@ -29,43 +34,40 @@ returns g c =
     let e = c.own_in.ensures.owned in
     let low : c.args.p.0 < self.n = omega (arith, c.if-index-self.false, c.index.ensures) in
     let some : 0 < self.n = omega (arith, low) in
-    let sound = opened n old.ranks.items old.order.items (links old.links.items) (self.ordered some) in
-    let now-links : links_of m n new.links.items ≡ links_of m n old.links.items = ap (λ v. links_of m n v.items) e.links in
-    let are : links_of m n old.links.items ≡ arrows_in m old.links.items = links_are m n old.links.items some in
-    let now-order : order_in n new.order.items ≡ order_in n old.order.items = ap (λ v. order_in n v.items) e.order in
-    let there : (u v : ℕ) (t : g.row.K-Passage.Denot) → Leads (links_of m n new.links.items) u v t → Leads (links_of m n old.links.items) u v t =
-    λ u v t. subst (λ (ls : List (Link g.row.K-Passage.Denot)). Leads ls u v t) now-links in
-    let back : (u v : ℕ) (t : g.row.K-Passage.Denot) → Leads (links_of m n old.links.items) u v t → Leads (links_of m n new.links.items) u v t =
-    λ u v t. subst (λ (ls : List (Link g.row.K-Passage.Denot)). Leads ls u v t) (sym now-links) in
-    let before : Ledger m.Value g.row.K-Passage.Denot = (view m self).ledger in
-    let after : Ledger m.Value g.row.K-Passage.Denot = record { present = present_in n new.present.items; own = value_in m n new.own.items; links = links_of m n new.links.items } in
+    let size = self.places some in
+    let sound = subst (λ k. Sound k ranks (order_of old.graph) xs) size (sound_of old.graph) in
+    let own = subst (λ k. Put (value_in m k old.own.items) (value_in m k new.own.items) p x) size e.own in
+    let labels = subst (λ k. Recomputes m k new.own.items xs ranks p old.labels.items new.labels.items list counts) size e.labels in
+    let links : links_of m n (linked new.graph) ≡ links_of m n xs = ap (λ G. links_of m n (linked G)) e.graph in
+    let are : links_of m n xs ≡ arrows_in m xs = links_are m n xs some in
+    let order : order_in n (order_of new.graph) ≡ order_in n (order_of old.graph) = ap (λ G. order_in n (order_of G)) e.graph in
+    let there : (u v : ℕ) (t : P) → Leads (links_of m n (linked new.graph)) u v t → Leads (links_of m n xs) u v t = λ u v t. subst (λ (ls : List (Link P)). Leads ls u v t) links in
+    let back : (u v : ℕ) (t : P) → Leads (links_of m n xs) u v t → Leads (links_of m n (linked new.graph)) u v t = λ u v t. subst (λ (ls : List (Link P)). Leads ls u v t) (sym links) in
+    let before : Ledger m.Value P = (view m self).ledger in
+    let after : Ledger m.Value P = record { present = present_in n new.present.items; own = value_in m n new.own.items; links = links_of m n (linked new.graph) } in
     record {
-      told = record {
-        passed = (
-          λ i. both_ways (is_out (permit_in self.permit)) (sym c.permit_is_out.ensures ∙ c.if-permit_is_out.false) i,
-          (λ l. omega (arith, c.if-list-self.false), (λ l. omega (arith, low), (λ i. both_ways (present_in n old.present.items p) i (sym c.is_present.ensures ∙ c.if-not-is_present.false), tt))),
-        );
-        edits = record {
-          does = record {
-            places = refl;
-            limit = refl;
-            ledger = record {
-              present = λ q. ap (λ v. present_in n v.items q) e.present;
-              own = put_is _ _ p x e.own;
-              links = λ u v t. (there u v t, back u v t);
-              number = λ test. ap (λ (ls : List (Link g.row.K-Passage.Denot)). length (filter test ls)) now-links;
-            };
-            order = now-order;
-            permit = refl;
+      passed = (
+        λ i. both_ways (is_out (permit_in self.permit)) (sym c.permit_is_out.ensures ∙ c.if-permit_is_out.false) i,
+        (λ l. omega (arith, c.if-list-self.false), (λ l. omega (arith, low), (λ i. both_ways (present_in n old.present.items p) i (sym c.is_present.ensures ∙ c.if-not-is_present.false), tt))),
+      );
+      edits = record {
+        does = record {
+          places = refl;
+          limit = refl;
+          ledger = record {
+            present = λ q. ap (λ v. present_in n v.items q) e.present;
+            own = put_is _ _ p x own;
+            links = λ u v t. (there u v t, back u v t);
+            number = λ test. ap (λ (ls : List (Link P)). length (filter test ls)) links;
           };
-          labels = λ joins.
-              subst (λ (o : List ℕ). Recomputed m.kind after (rank_in o) p (value_in m n old.labels.items) (value_in m n new.labels.items) (numbers (take counts.0 list)) counts) (sym now-order)
-              (settled m g.met.K.LabelKind.lawful.laws n new.own.items old.links.items old.ranks.items old.order.items sound before after (table.rank_in old.ranks.items)
-              (λ u v t h. rising m n old.ranks.items old.links.items sound.rising u v t (subst (λ (ls : List (Link g.row.K-Passage.Denot)). Leads ls u v t) are h))
-              p low (λ q. refl) (now-links ∙ are) (λ q ne. record { own = sym (e.own.other q ne); links = λ u t. (back u q t, there u q t) })
-              old.labels.items new.labels.items list counts e.labels joins);
+          order = order;
+          permit = refl;
         };
+        labels = λ joins.
+            subst (λ (o : List ℕ). Recomputed m.kind after (rank_in o) p (value_in m n old.labels.items) (value_in m n new.labels.items) (numbers (take counts.0 list)) counts) (sym order)
+            (settled m g.met.K.LabelKind.lawful.laws n new.own.items xs ranks (order_of old.graph) sound before after (table.rank_in ranks)
+            (λ u v t h. rising m n ranks xs sound.rising u v t (subst (λ (ls : List (Link P)). Leads ls u v t) are h))
+            p low (λ q. refl) (links ∙ are) (λ q ne. record { own = sym (own.other q ne); links = λ u t. (back u q t, there u q t) })
+            old.labels.items new.labels.items list counts labels joins);
       };
-      rest = c.own_in.ensures.rest;
-      kept = record { refused = refl; marks = e.marks };
     }

@@ -1,6 +1,0 @@
-use Rattle.std.proofs.Common.{◌≡◌, ◌-◌}
-use Rattle.links.specs.Table.{Stacked}
-use Rattle.links.proofs.stack.Given as goal
-
-abbrev pub invariant-loop-k : goal.invariant-loop-k
-invariant-loop-k g l = Stacked l.rows l.k × (l.below ≡ l.k - 1)
