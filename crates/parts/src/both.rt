@@ -31,8 +31,10 @@ impl<S: Before<T>, T: TextForm> TextForm for Both<S, T> {
         more: bool,
         started: bool,
     ) -> Result<(Pair<S::Value, T::Value>, bool), Fault> {
-        let (first, started) = S::read(reader, true, started)?;
-        let (second, started) = T::read(reader, more, started)?;
+        let mut ahead = *reader;
+        let (first, started) = S::read(&mut ahead, true, started)?;
+        let (second, started) = T::read(&mut ahead, more, started)?;
+        *reader = ahead;
         Ok((Pair { first, second }, started))
     }
 

@@ -49,22 +49,25 @@ fn gap(reader: &mut Reader, started: bool) -> Result<(), Fault>
 fn word<'a, W: Words>(reader: &mut Reader<'a>) -> Result<&'a [u8], Fault>
     ensures { Takes reader.old reader.new 1 (λ x. x.now) (pick (words W.Words.among)) result }
 {
-    let at = reader.at;
-    let Item::Word(_, word) = reader.item()? else {
-        return Err(not_allowed(at));
+    let mut ahead = *reader;
+    let Item::Word(_, word) = ahead.item()? else {
+        return Err(not_allowed(reader.at));
     };
-    if W::has(word) {
-        Ok(word)
-    } else {
-        Err(not_allowed(at))
+    if !W::has(word) {
+        return Err(not_allowed(reader.at));
     }
+    *reader = ahead;
+    Ok(word)
 }
 
 // Up to the word of the next part.
 pub(crate) fn entry<'a, W: Words>(reader: &mut Reader<'a>, started: bool) -> Result<&'a [u8], Fault>
     ensures { Takes reader.old reader.new 0 (λ x. x.now) (entry W.Words.among started) result }
 {
-    gap(reader, started)?;
-    reader.mark(Mark::Open)?;
-    word::<W>(reader)
+    let mut ahead = *reader;
+    gap(&mut ahead, started)?;
+    ahead.mark(Mark::Open)?;
+    let word = word::<W>(&mut ahead)?;
+    *reader = ahead;
+    Ok(word)
 }

@@ -48,9 +48,11 @@ fn passes_on<P: PartText>(reader: Reader, more: bool, started: bool) -> bool
 fn own_part<P: PartText>(reader: &mut Reader, started: bool) -> Result<P::Value, Fault>
     ensures { Takes reader.old reader.new 0 (λ v. (v, true)) (own_part P.PartText.part started) result }
 {
-    let word = entry::<P>(reader, started)?;
-    let value = P::read_args(reader, word)?;
-    reader.mark(Mark::Close)?;
+    let mut ahead = *reader;
+    let word = entry::<P>(&mut ahead, started)?;
+    let value = P::read_args(&mut ahead, word)?;
+    ahead.mark(Mark::Close)?;
+    *reader = ahead;
     Ok(value)
 }
 

@@ -1,5 +1,5 @@
 // A value that is written as one part: none, or a bracketed part that a word begins.
-ghost use Rattle.std.specs.Prelude.{◌≡◌, Bool, false};
+ghost use Rattle.std.specs.Prelude.{◌≡◌, Bool};
 ghost use Rattle.reading.specs.Agree.{Takes};
 ghost use Rattle.parts.specs.Parts.{Part, Whole, inside};
 
@@ -27,10 +27,9 @@ pub trait PartText {
     fn read_args(reader: &mut Reader, word: &[u8]) -> Result<Self::Value, Fault>
         ensures { Takes reader.old reader.new 0 (λ x. x) (part.body word.now) result };
 
-    // The word, and what follows it.
+    // The word, and what follows it. Also a value without a part has this text, which may be empty.
     fn put_inside<S: Sink>(value: Self::Value, out: &mut S)
-        requires some { part.empty value ≡ false }
-        requires fits { S.fits out.old (inside part value) }
+        requires { S.fits out.old (inside part value) }
         ensures { S.took out.old (inside part value) out.new };
 
     ghost whole: { Whole part };

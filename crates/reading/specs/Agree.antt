@@ -25,6 +25,12 @@ abbrev pub placed : {X : Type 0} → Result X Fault → ℕ → Result (X × ℕ
 placed (Ok v) at = Ok (v, at)
 placed (Err e) at = Err e
 
--- By the answer, r became s in the same text, and read what the definition reads there; a fault is before the place k bytes on by one byte at most.
+-- The text is the same, and after a fault the reader is as it was.
+abbrev pub Stands : {X : Type 0} → Reader → Reader → Result X Fault → Type 0
+Stands r s (Ok v) = s.text ≡ r.text
+Stands r s (Err e) = s ≡ r
+
+-- By the answer, r became s, in the same text and after a fault as it was, and read what the definition reads there; a fault is before the place k bytes on
+-- by one byte at most.
 abbrev pub Takes : {X Y : Type 0} → Reader → Reader → ℕ → (X → Y) → Read Y → Result X Fault → Type 0
-Takes r s k means read result = (s.text ≡ r.text) × Reads r.text.now (r.at + k) means (read (rest r)) (placed result s.at)
+Takes r s k means read result = Stands r s result × Reads r.text.now (r.at + k) means (read (rest r)) (placed result s.at)

@@ -40,7 +40,7 @@ fn is_mark(item: &Item, mark: Mark) -> bool
 }
 
 impl<'a> Reader<'a> {
-    // The next item, whichever it is. After a fault the reader stands in the same text.
+    // The next item, whichever it is.
     pub fn item(&mut self) -> Result<Item<'a>, Fault>
         ensures { Takes self.old self.new 1 seen item result }
     {
@@ -56,13 +56,13 @@ impl<'a> Reader<'a> {
     pub fn mark(&mut self, mark: Mark) -> Result<(), Fault>
         ensures { Takes self.old self.new 1 (λ x. x) (pick (marked mark)) result }
     {
-        let at = self.at;
-        let item = self.item()?;
-        if is_mark(&item, mark) {
-            Ok(())
-        } else {
-            Err(not_allowed(at))
+        let mut ahead = *self;
+        let item = ahead.item()?;
+        if !is_mark(&item, mark) {
+            return Err(not_allowed(self.at));
         }
+        *self = ahead;
+        Ok(())
     }
 
     // Whether the next item is a closing bracket.

@@ -1,4 +1,4 @@
-// Reading a text item by item: each reader answers what it read, or the first fault, and stands after it.
+// Reading a text item by item: each function answers what it read and leaves the reader behind it, or the first fault and leaves the reader as it was.
 #![tactic(auto)]
 
 pub mod fault;

@@ -1,4 +1,4 @@
-// A text, and how far it was read.
+// A text, and how far it was read. What takes more than one step reads on a copy first, so that after a fault the reader is as it was.
 ghost use Rattle.std.specs.Prelude.{◌≡◌, ◌≤◌, length};
 
 #[derive(Clone, Copy, PartialEq, Eq, Debug)]

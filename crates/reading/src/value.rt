@@ -15,11 +15,13 @@ impl<'a> Reader<'a> {
         ensures reads { Takes self.old self.new 1 (λ x. x) (pick counts) result }
         ensures range { IfOk result (λ n. n < 100000) }
     {
-        let at = self.at;
-        let Item::Number(_, digits) = self.item()? else {
-            return Err(not_allowed(at));
+        let mut ahead = *self;
+        let Item::Number(_, digits) = ahead.item()? else {
+            return Err(not_allowed(self.at));
         };
-        number_in(digits).ok_or(not_allowed(at))
+        let n = number_in(digits).ok_or(not_allowed(self.at))?;
+        *self = ahead;
+        Ok(n)
     }
 
     // A number from low to high.
@@ -27,12 +29,13 @@ impl<'a> Reader<'a> {
         ensures reads { Takes self.old self.new 1 (λ x. x) (pick (counts_in low high)) result }
         ensures range { IfOk result (λ n. (low ≤ n) × (n ≤ high)) }
     {
-        let at = self.at;
-        let n = self.number()?;
+        let mut ahead = *self;
+        let n = ahead.number()?;
         if (low..=high).contains(&n) {
+            *self = ahead;
             Ok(n)
         } else {
-            Err(out_of_range(at))
+            Err(out_of_range(self.at))
         }
     }
 
@@ -40,18 +43,23 @@ impl<'a> Reader<'a> {
     pub fn day(&mut self) -> Result<Day, Fault>
         ensures { Takes self.old self.new 1 (λ day. day.number) (pick days) result }
     {
-        let at = self.at;
-        let Item::Date(_, run) = self.item()? else {
-            return Err(not_allowed(at));
+        let mut ahead = *self;
+        let Item::Date(_, run) = ahead.item()? else {
+            return Err(not_allowed(self.at));
         };
-        Day::read(run).map_err(|_| out_of_range(at))
+        let day = Day::read(run).map_err(|_| out_of_range(self.at))?;
+        *self = ahead;
+        Ok(day)
     }
 
     // A space, and then a date.
     pub fn spaced_day(&mut self) -> Result<Day, Fault>
         ensures { Takes self.old self.new 1 (λ day. day.number) dated result }
     {
-        self.mark(Mark::Space)?;
-        self.day()
+        let mut ahead = *self;
+        ahead.mark(Mark::Space)?;
+        let day = ahead.day()?;
+        *self = ahead;
+        Ok(day)
     }
 }

@@ -5,8 +5,8 @@ use Rattle.parts.proofs.form.AnyTextForm.put.Goals as goal
 pub put_open-requires : goal.put_open-requires
 put_open-requires g c = fits_open g.P.PartText.part c.args.value c.args.started g.met.S.Sink.laws c.args.out.now (sym c.if-is_none.ensures) c.requires
 
-pub put_inside-requires-clause-fits : goal.put_inside-requires-clause-fits
-put_inside-requires-clause-fits g c =
+pub put_inside-requires : goal.put_inside-requires
+put_inside-requires g c =
     fits_inside g.P.PartText.part c.args.value c.args.started g.met.S.Sink.laws c.args.out.now (sym c.if-is_none.ensures) c.requires c.put_open.new.out c.put_open.ensures
 
 pub put-requires : goal.put-requires
