@@ -13,8 +13,10 @@ use reading::{Fault, Mark, Reader};
 pub(crate) fn take_count<const MOST: u32>(reader: &mut Reader) -> Result<Count<MOST>, Fault>
     ensures { Takes reader.old reader.new 1 (λ c. c.count) (counted 1 MOST) result }
 {
-    reader.mark(Mark::Space)?;
-    let count = reader.number_from(1, MOST)?;
+    let mut ahead = *reader;
+    ahead.mark(Mark::Space)?;
+    let count = ahead.number_from(1, MOST)?;
+    *reader = ahead;
     Ok(Count { count })
 }
 
@@ -24,8 +26,10 @@ pub(crate) fn take_level<const LOW: u8, const TOP: u8>(
 ) -> Result<Level<TOP>, Fault>
     ensures { Takes reader.old reader.new 1 (λ l. l.level) (counted LOW TOP) result }
 {
-    reader.mark(Mark::Space)?;
-    let level = reader.number_from(u32::from(LOW), u32::from(TOP))?;
+    let mut ahead = *reader;
+    ahead.mark(Mark::Space)?;
+    let level = ahead.number_from(u32::from(LOW), u32::from(TOP))?;
+    *reader = ahead;
     Ok(Level { level: level as u8 })
 }
 

@@ -3,7 +3,6 @@ ghost use Rattle.house_text.specs.ExpiryText.{until_part, step_part};
 ghost use Rattle.house_text.specs.ExpiryBack.{until_whole, step_whole};
 
 use super::args::{put_count, put_day, take_count};
-use calendar::Day;
 use house::{Expiry, ExpiryPassage};
 use kinds::LabelKind;
 use parts::{PartText, Sink};
@@ -40,10 +39,11 @@ impl PartText for UntilText {
     }
 
     fn put_inside<S: Sink>(value: Expiry, out: &mut S) {
-        let day = Day {
-            number: value.number,
-        };
-        put_day(out, b"until", day);
+        match value.day() {
+            Some(day) => put_day(out, b"until", day),
+            // The empty expiry has no day: its text is that of the number 0.
+            None => out.put(b"until 1970-01-01"),
+        }
     }
 }
 

@@ -14,15 +14,16 @@ fn take_claim(reader: &mut Reader, low: u32) -> Result<u32, Fault>
     ensures reads { Takes reader.old reader.new 1 (λ x. x) (pick (numbers (risen low))) result }
     ensures range { IfOk result (λ n. (low ≤ n) × (n ≤ 63)) }
 {
-    let at = reader.at;
-    let n = reader.number()?;
+    let mut ahead = *reader;
+    let n = ahead.number()?;
     // Two ranges with a fault each, and the first has one bound.
     if n > 63 {
-        return Err(out_of_range(at));
+        return Err(out_of_range(reader.at));
     }
     if n < low {
-        return Err(not_allowed(at));
+        return Err(not_allowed(reader.at));
     }
+    *reader = ahead;
     Ok(n)
 }
 
@@ -30,14 +31,16 @@ fn take_claim(reader: &mut Reader, low: u32) -> Result<u32, Fault>
 pub(crate) fn read_any(reader: &mut Reader) -> Result<u64, Fault>
     ensures { Takes reader.old reader.new 0 (λ x. x) any_rising result }
 {
+    let mut ahead = *reader;
     let mut low: u32 = 0;
     let mut set: u64 = 0;
-    while !reader.at_close() {
-        reader.mark(Mark::Space)?;
-        let n = take_claim(reader, low)?;
+    while !ahead.at_close() {
+        ahead.mark(Mark::Space)?;
+        let n = take_claim(&mut ahead, low)?;
         set += 1 << n;
         low = n + 1;
     }
+    *reader = ahead;
     Ok(set)
 }
 
