@@ -16,34 +16,37 @@ fn take_said<K: Written>(
 ) -> Result<Form<K, K::Passage>, Fault>
     ensures { Takes reader.old reader.new 1 line_of (said K.Text.TextForm.spelling K.PassageText.TextForm.spelling keyword) result }
 {
-    match keyword {
-        Keyword::Bring => Ok(Form::Bring(take_place(reader)?)),
+    let mut ahead = *reader;
+    let form = match keyword {
+        Keyword::Bring => Form::Bring(take_place(&mut ahead)?),
         Keyword::Own => {
-            let place = take_place(reader)?;
-            let (label, _) = K::read(reader, false, true)?;
-            Ok(Form::Own(place, label))
+            let place = take_place(&mut ahead)?;
+            let (label, _) = K::read(&mut ahead, false, true)?;
+            Form::Own(place, label)
         }
         Keyword::Link => {
-            let from = take_place(reader)?;
-            let to = take_place(reader)?;
-            let (passage, _) = K::read_passage(reader, false, true)?;
-            Ok(Form::Link(from, to, passage))
+            let from = take_place(&mut ahead)?;
+            let to = take_place(&mut ahead)?;
+            let (passage, _) = K::read_passage(&mut ahead, false, true)?;
+            Form::Link(from, to, passage)
         }
         Keyword::Unlink => {
-            let from = take_place(reader)?;
-            Ok(Form::Unlink(from, take_place(reader)?))
+            let from = take_place(&mut ahead)?;
+            Form::Unlink(from, take_place(&mut ahead)?)
         }
-        Keyword::Label => Ok(Form::Label(take_place(reader)?)),
+        Keyword::Label => Form::Label(take_place(&mut ahead)?),
         Keyword::Explain => {
-            let place = take_place(reader)?;
-            Ok(Form::Explain(place, reader.spaced_day()?))
+            let place = take_place(&mut ahead)?;
+            Form::Explain(place, ahead.spaced_day()?)
         }
-        Keyword::List => Ok(Form::List(reader.spaced_day()?)),
+        Keyword::List => Form::List(ahead.spaced_day()?),
         Keyword::Discard => {
-            let place = take_place(reader)?;
-            Ok(Form::Discard(place, reader.spaced_day()?))
+            let place = take_place(&mut ahead)?;
+            Form::Discard(place, ahead.spaced_day()?)
         }
-    }
+    };
+    *reader = ahead;
+    Ok(form)
 }
 
 fn take_rest<K: Written>(
@@ -52,9 +55,11 @@ fn take_rest<K: Written>(
 ) -> Result<Form<K, K::Passage>, Fault>
     ensures { Takes reader.old reader.new 1 line_of (form_rest K.Text.TextForm.spelling K.PassageText.TextForm.spelling keyword) result }
 {
-    let form = take_said::<K>(reader, keyword)?;
-    reader.mark(Mark::Close)?;
-    reader.mark(Mark::Newline)?;
+    let mut ahead = *reader;
+    let form = take_said::<K>(&mut ahead, keyword)?;
+    ahead.mark(Mark::Close)?;
+    ahead.mark(Mark::Newline)?;
+    *reader = ahead;
     Ok(form)
 }
 
@@ -62,7 +67,10 @@ fn take_rest<K: Written>(
 pub fn read_form<K: Written>(reader: &mut Reader) -> Result<Form<K, K::Passage>, Fault>
     ensures { Takes reader.old reader.new 1 line_of (form K.Text.TextForm.spelling K.PassageText.TextForm.spelling) result }
 {
-    reader.mark(Mark::Open)?;
-    let keyword = take_keyword(reader)?;
-    take_rest::<K>(reader, keyword)
+    let mut ahead = *reader;
+    ahead.mark(Mark::Open)?;
+    let keyword = take_keyword(&mut ahead)?;
+    let form = take_rest::<K>(&mut ahead, keyword)?;
+    *reader = ahead;
+    Ok(form)
 }

@@ -30,17 +30,22 @@ fn keyword_in(word: &[u8]) -> Option<Keyword>
 pub(crate) fn take_keyword(reader: &mut Reader) -> Result<Keyword, Fault>
     ensures { Takes reader.old reader.new 1 (λ x. x) (pick keywords) result }
 {
-    let at = reader.at;
-    let Item::Word(_, word) = reader.item()? else {
-        return Err(not_allowed(at));
+    let mut ahead = *reader;
+    let Item::Word(_, word) = ahead.item()? else {
+        return Err(not_allowed(reader.at));
     };
-    keyword_in(word).ok_or(not_allowed(at))
+    let keyword = keyword_in(word).ok_or(not_allowed(reader.at))?;
+    *reader = ahead;
+    Ok(keyword)
 }
 
 // A space and the number of a place.
 pub(crate) fn take_place(reader: &mut Reader) -> Result<PlaceNumber, Fault>
     ensures { Takes reader.old reader.new 1 number_of place result }
 {
-    reader.mark(Mark::Space)?;
-    Ok(PlaceNumber::new(reader.number()?))
+    let mut ahead = *reader;
+    ahead.mark(Mark::Space)?;
+    let number = ahead.number()?;
+    *reader = ahead;
+    Ok(PlaceNumber::new(number))
 }
