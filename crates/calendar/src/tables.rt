@@ -33,10 +33,10 @@ const PLAIN: [u32; 12] = [0, 31, 59, 90, 120, 151, 181, 212, 243, 273, 304, 334]
 const LEAP: [u32; 12] = [0, 31, 60, 91, 121, 152, 182, 213, 244, 274, 305, 335];
 
 // The days before each month of a leap year, or of a plain one.
-fn month_starts(long: bool) -> [u32; 12]
-    ensures { result ≡ starts long }
+fn month_starts(long: bool) -> &'static [u32; 12]
+    ensures { result.now ≡ starts long }
 {
-    if long { LEAP } else { PLAIN }
+    if long { &LEAP } else { &PLAIN }
 }
 
 // The day number of 1 January of the year 1970 + k.

@@ -1,5 +1,5 @@
 // The day that a line names, and what is printed for it.
-ghost use Rattle.std.specs.Prelude.{◌≡◌, ℕ, List, ◌++◌, string_bytes, IfOk, OnOk};
+ghost use Rattle.std.specs.Prelude.{◌≡◌, ℕ, List, ◌++◌, OnOk};
 ghost use Rattle.days.specs.Lookup.{Answers as AnswersLine, printed, Prints};
 
 use calendar::{Date, Day};
@@ -18,21 +18,32 @@ pub fn look_up(line: &[u8]) -> Result<Day, Refusal>
     Day::try_from(number)
 }
 
-// What is printed of an answer.
-fn text_of(heap: Global, answer: Result<Day, Refusal>) -> Result<String, AllocError>
-    ensures { IfOk result (λ text. string_bytes text ≡ printed answer) }
+// Appends what is printed of an answer.
+fn push_answer(
+    heap: Global,
+    answer: Result<Day, Refusal>,
+    out: &mut Vec<u8>,
+) -> Result<(), AllocError>
+    ensures { OnOk result (out.new.items ≡ out.old.items ++ printed answer) }
 {
-    match answer {
-        Ok(day) => format!(in heap; "{day} {}\n", day.number),
-        Err(refusal) => format!(in heap; "refused {}\n", u8::from(refusal)),
-    }
+    let rest = match answer {
+        Ok(day) => {
+            // Not by `{day}`: a format makes it on the heap, digit by digit.
+            out.extend_from_slice(&day.text())?;
+            format!(in heap; " {}\n", day.number)?
+        }
+        Err(refusal) => {
+            out.extend_from_slice(b"refused")?;
+            format!(in heap; " {}\n", u8::from(refusal))?
+        }
+    };
+    // Not by `writeln!`: to a Vec of bytes it answers an `io::Error`.
+    out.extend_from_slice(rest.as_bytes())
 }
 
 // Appends what is printed for a line.
 pub fn report(heap: Global, line: &[u8], out: &mut Vec<u8>) -> Result<(), AllocError>
     ensures { OnOk result ((text : List ℕ) × Prints line.now text × (out.new.items ≡ out.old.items ++ text)) }
 {
-    // Not by `writeln!`: to a Vec of bytes it answers an `io::Error`.
-    let text = text_of(heap, look_up(line))?;
-    out.extend_from_slice(text.as_bytes())
+    push_answer(heap, look_up(line), out)
 }

@@ -11,7 +11,7 @@ found : (c : After-partition_point)
 found c =
     let n = c.args.rest in
     let i = c.partition_point.result in
-    let xs = c.month_starts.result in
+    let xs = c.month_starts.result.now in
     let is = c.month_starts.ensures in
     let rise : IsNonDecreasing xs = subst IsNonDecreasing (sym is) (starts_rise c.args.long) in
     let point : IsPartitionPoint (λ y. leb y n ≡ true) (λ y. leb y n ≡ false) xs i =
