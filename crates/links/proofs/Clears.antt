@@ -9,7 +9,7 @@ use Rattle.links.specs.declared.row.Side.{Side}
 use Rattle.links.specs.declared.row.Side.TheVariants.{Leaving, Entering}
 use Rattle.links.specs.Threads.{Sorted}
 use Rattle.links.specs.declared.row.Link.{Link}
-use Rattle.links.specs.Table.{Shape, at, view, head_of, link_at, linked, somes, links, Sound, Free, Taken, as_link, no_heads}
+use Rattle.links.specs.Table.{Shape, at, view, head_of, link_at, linked, somes, links, Sound, Free, Stacked, Headless, Taken, as_link}
 use Rattle.links.proofs.Rows.{none_dead, at_same, at_other}
 use Rattle.links.proofs.Held.{dead_none, link_live, none_some}
 
@@ -22,10 +22,6 @@ head_none : (side : Side) (n : ℕ) → head_of side (record { leaving = record 
 head_none Leaving n = refl
 head_none Entering n = refl
 
--- rows below n lie on one another, each on the one before
-abbrev pub Stacked : {R : Type 0} → List (LinkRow R) → ℕ → Type 0
-Stacked rows n = (k : ℕ) → k < n → ((at rows k).unused ≡ k + 1) × ((at rows k).leaving ≡ k - 1)
-
 pub stacked_more : {R : Type 0} (rows : List (LinkRow R)) (k b : ℕ) → Stacked rows k → k < length rows → b ≡ k - 1 → Stacked (set rows k (Unused k (record { 0 = b }))) (k + 1)
 stacked_more rows k b st l e =
     let y = Unused k (record { 0 = b }) in
@@ -36,10 +32,6 @@ stacked_more rows k b st l e =
     let i = st j h in
     (ap (λ (z : Shape). z.unused) there ∙ i.0, ap (λ (z : Shape). z.leaving) there ∙ i.1))
     (ap (λ (z : Shape). z.unused) here ∙ sym (add-one k), ap (λ (z : Shape). z.leaving) here ∙ e)
-
--- no link hangs at a place
-abbrev pub Headless : List Heads → ℕ → Type 0
-Headless heads none = (p : ℕ) → p < length heads → get_or heads p no_heads ≡ record { leaving = record { 0 = none }; entering = record { 0 = none } }
 
 module _ {R : Type 0} (rows : List (LinkRow R)) (n : ℕ) (stacked : Stacked rows n) (all : length rows ≤ n) where
   st : Stacked rows (length rows)
@@ -64,7 +56,7 @@ module _ {R : Type 0} (rows : List (LinkRow R)) (n : ℕ) (stacked : Stacked row
   pub no_links : links rows ≡ []
   no_links = somes_none (linked rows) (λ k. dead_none rows k (all_dead k))
 
-  module _ (heads : List Heads) (none : ℕ) (no_slot : none ≡ length rows) (hl : Headless heads none) where
+  module _ (heads : List Heads) (none : ℕ) (no_slot : none ≡ length rows) (hl : Headless heads none (length heads)) where
     no_threads : (side : Side) → Sorted (view side rows heads) (length heads)
     no_threads side = record {
       first = λ p l.

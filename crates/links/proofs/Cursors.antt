@@ -1,5 +1,5 @@
 -- What a sorted thread says of the links. Assumes nothing.
-use Rattle.std.proofs.Common.{◌≡◌, ℕ, ◌<◌, ◌↔◌, Bool, true, false, eqb, List, length, Some, None, Option, is_some, sym, refl, ◌∙◌, arith, eqb-true, eq-eqb}
+use Rattle.std.proofs.Common.{◌≡◌, ℕ, ◌<◌, ◌↔◌, Bool, true, false, cond, eqb, ltb, List, length, get_or, Some, None, Option, is_some, sym, refl, ap, ◌∙◌, subst, arith, eqb-true, eq-eqb, ltb-false, ltb-true}
 use Rattle.std.specs.Bool.{then_some}
 use borrow.Author.Tests.{both_ways}
 use Rattle.links.specs.declared.row.Slot.{Slot}
@@ -7,11 +7,12 @@ use Rattle.links.specs.declared.row.LinkRow.{LinkRow}
 use Rattle.links.specs.declared.row.Heads.{Heads}
 use Rattle.links.specs.declared.row.Side.{Side}
 use Rattle.links.specs.declared.row.Side.TheVariants.{Leaving, Entering}
-use Rattle.links.specs.Threads.{Sorted, Gap}
+use Rattle.links.specs.Threads.{Least, Sorted, Gap}
 use Rattle.links.specs.declared.row.Link.{Link}
-use Rattle.links.specs.Table.{Shape, at, hub, key, view, Sound, Leads, LinkFrom, linked, links, Found, end_of, key_of}
+use Rattle.links.specs.Table.{Shape, at, hub, key, view, Sound, Leads, LinkFrom, linked, links, Lowest, Found, slot_of, end_of, key_of, head_of, no_heads}
 use Rattle.links.proofs.Held.{live_link, link_live}
 use Rattle.links.proofs.Haves.{slot_having, of_slot}
+use Rattle.links.proofs.Rows.{head_read}
 
 pub end_by : {R : Type 0} (side : Side) (l : Link R) (x : Shape) → l.source.0 ≡ x.source → l.target.0 ≡ x.target → end_of side l ≡ hub side x
 end_by Leaving l x e f = e
@@ -24,6 +25,49 @@ key_by Entering l x e f = e
 pub sorted_of : {R : Type 0} (side : Side) (rows : List (LinkRow R)) (heads : List Heads) (count free : ℕ) → Sound rows heads count free → Sorted (view side rows heads) (length heads)
 sorted_of Leaving rows heads count free so = so.leaving
 sorted_of Entering rows heads count free so = so.entering
+
+pub least_lowest : {R : Type 0} (side : Side) (rows : List (LinkRow R)) (heads : List Heads) (p b s : ℕ) → Least (view side rows heads) p b s → Lowest side rows p b (slot_of (length rows) s)
+least_lowest {R} side rows heads p b s least = go (ltb s (length rows)) refl
+  where
+    go : (t : Bool) → ltb s (length rows) ≡ t → Lowest side rows p b (cond t (Some (record { 0 = s })) None)
+    go true e =
+        let i = ltb-true s (length rows) e in
+        let h = least.here i in
+        let l = live_link rows s i h.0 in
+        let k = key_by side l.0 (at rows s) l.2 l.3 in (
+          l.0,
+          (i, l.1, of_slot (linked rows) l.0 s l.1),
+          end_by side l.0 (at rows s) l.2 l.3 ∙ h.1,
+          omega (arith, h.2),
+          λ m q f le.
+              let r = slot_having (linked rows) m q in
+              let j = r.0 in
+              let w = link_live rows j m r.1 in
+              let k' = key_by side m (at rows j) (sym w.2) (sym w.3) in
+              let o = least.least j w.1 (sym (end_by side m (at rows j) (sym w.2) (sym w.3)) ∙ f) (omega arith) in
+              omega (arith, o.1),
+        )
+    go false e =
+        let i = ltb-false s (length rows) e in
+        λ m q f le.
+        let r = slot_having (linked rows) m q in
+        let j = r.0 in
+        let w = link_live rows j m r.1 in
+        let k' = key_by side m (at rows j) (sym w.2) (sym w.3) in
+        let o = least.least j w.1 (sym (end_by side m (at rows j) (sym w.2) (sym w.3)) ∙ f) (omega arith) in
+        omega (arith, o.0)
+
+-- the slot at which a thread begins, as it is read
+pub first_lowest : {R : Type 0} (side : Side) (rows : List (LinkRow R)) (heads : List Heads) (count free : ℕ) → Sound rows heads count free → (p : ℕ) (h : Heads) (s n : ℕ) (r : Option Slot) →
+    p < length heads → h ≡ get_or heads p h → s ≡ head_of side h → n ≡ length rows → r ≡ slot_of n s → Lowest side rows p 0 r
+first_lowest side rows heads count free so p h s n r i e f g q =
+    let is : s ≡ head_of side (get_or heads p no_heads) = f ∙ ap (head_of side) (head_read heads p h i e) in
+    subst (Lowest side rows p 0) (sym (q ∙ ap (λ k. slot_of k s) g ∙ ap (slot_of (length rows)) is)) (least_lowest side rows heads p 0 (head_of side (get_or heads p no_heads)) ((sorted_of side rows heads count free so).first p i))
+
+-- whether a thread begins at a slot is whether a link leaves the place
+pub lowest_leaves : {R : Type 0} (rows : List (LinkRow R)) (p : ℕ) (r : Option Slot) → Lowest Leaving rows p 0 r → (is_some r ≡ true) ↔ ((v : ℕ) × Leads (links rows) p v)
+lowest_leaves rows p None none = (λ q. absurd (both_ways false refl q), λ j. absurd (none j.1.0 j.1.1 j.1.2 (omega arith)))
+lowest_leaves rows p (Some s) e = (λ _. (e.0.target.0, (e.0, e.1.2, e.2, refl)), λ _. refl)
 
 pub found : {R : Type 0} (rows : List (LinkRow R)) (heads : List Heads) (u v prev s : ℕ) → Gap (view Leaving rows heads) u v prev s → s < length rows → (at rows s).target ≡ v → Found rows u v (Some (record { 0 = s }))
 found rows heads u v prev s g i e =

@@ -1,5 +1,5 @@
 -- What the rows of a link table say. Assumes nothing.
-use Rattle.std.specs.Prelude.{◌≡◌, ℕ, suc, ◌-◌, ◌<◌, ◌≤◌, List, [], ◌∷◌, map, length, Some, None, Option, ◌≢◌, slice_index_or, slice_set}
+use Rattle.std.specs.Prelude.{◌≡◌, ℕ, suc, ◌+◌, ◌-◌, ◌<◌, ◌≤◌, cond, List, [], ◌∷◌, map, length, Some, None, Option, ◌≢◌, nat_lt, slice_index_or, slice_set}
 use Rattle.std.specs.List.{ContainsAt as Has}
 use Rattle.common.specs.declared.number.PlaceNumber.{PlaceNumber}
 use Rattle.links.specs.declared.row.Slot.{Slot}
@@ -160,6 +160,13 @@ key_of Entering l = l.source.0
 abbrev pub Holds : {R : Type 0} → List (LinkRow R) → ℕ → Link R → Type 0
 Holds rows s l = (s < length rows) × (link_at rows s ≡ Some l) × Has (links rows) l
 
+-- the slot of the link at p with the least key from b on, if there is one
+abbrev pub Lowest : {R : Type 0} → Side → List (LinkRow R) → ℕ → ℕ → Option Slot → Type 0
+Lowest {R} side rows p b None = (m : Link R) → Has (links rows) m → end_of side m ≡ p → b ≤ key_of side m → ⊥
+Lowest {R} side rows p b (Some s) =
+    (l : Link R) × Holds rows s.0 l × (end_of side l ≡ p) × (b ≤ key_of side l) ×
+    ((m : Link R) → Has (links rows) m → end_of side m ≡ p → b ≤ key_of side m → key_of side l ≤ key_of side m)
+
 -- the slot of the link from u to v, if there is one
 abbrev pub Found : {R : Type 0} → List (LinkRow R) → ℕ → ℕ → Option Slot → Type 0
 Found {R} rows u v None = Leads (links rows) u v → ⊥
@@ -171,6 +178,18 @@ IsUsed rows s = (s < length rows) × ((at rows s).unused ≡ 0)
 
 abbrev pub IsUnused : {R : Type 0} → List (LinkRow R) → ℕ → Type 0
 IsUnused rows s = (s < length rows) × ((at rows s).unused ≢ 0)
+
+-- s, if it is one of n slots
+abbrev pub slot_of : ℕ → ℕ → Option Slot
+slot_of n s = cond (nat_lt s n) (Some (record { 0 = s })) None
+
+-- rows below n lie on one another, each on the one before
+abbrev pub Stacked : {R : Type 0} → List (LinkRow R) → ℕ → Type 0
+Stacked rows n = (k : ℕ) → k < n → ((at rows k).unused ≡ k + 1) × ((at rows k).leaving ≡ k - 1)
+
+-- no link hangs at the places below n
+abbrev pub Headless : List Heads → ℕ → ℕ → Type 0
+Headless heads none n = (p : ℕ) → p < n → slice_index_or heads p no_heads ≡ record { leaving = record { 0 = none }; entering = record { 0 = none } }
 
 -- the number of a slot, or n where there is none
 abbrev pub number_or : ℕ → Option Slot → ℕ

@@ -7,7 +7,7 @@ mod row;
 mod table;
 mod threads;
 
-pub use row::{Heads, Link, LinkRow, Slot};
+pub use row::{Heads, Link, LinkRow, Side, Slot, Tally};
 pub use table::{LinkTable, LinksAt};
 
 // What the calls make of a table is what they make of the ledger's links, whatever the passages' rows mean.

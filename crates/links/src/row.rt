@@ -1,6 +1,6 @@
 // The rows of the link table, and the links that they hold.
 ghost use Rattle.std.specs.Prelude.{◌≡◌};
-ghost use Rattle.links.specs.Table.{head_of, key_of, with_head};
+ghost use Rattle.links.specs.Table.{head_of, key_of, slot_of, with_head};
 
 use common::PlaceNumber;
 
@@ -43,6 +43,15 @@ pub enum LinkRow<R> {
 pub struct Tally {
     pub count: usize,
     pub free: Slot,
+}
+
+impl Slot {
+    // The slot, if it is one of n.
+    pub(crate) fn within(self, n: usize) -> Option<Slot>
+        ensures { result ≡ slot_of n self.0 }
+    {
+        (self.0 < n).then_some(self)
+    }
 }
 
 impl<R: Copy> Link<R> {

@@ -1,8 +1,8 @@
 // Rows that hang on threads, and the heads of the threads.
-ghost use Rattle.std.specs.Prelude.{◌≡◌, ◌<◌, None, Some, [], MatchOption, IfSome, length, slice_get};
+ghost use Rattle.std.specs.Prelude.{◌≡◌, ◌-◌, ◌<◌, None, Some, [], MatchOption, IfSome, length, slice_get};
 ghost use Rattle.links.specs.declared.row.LinkRow.TheVariants.{Used};
 ghost use Rattle.links.specs.Threads.{Sorted, Gap};
-ghost use Rattle.links.specs.Table.{IsUsed, IsUnused, at, view, links, link_at, number_or, Kept, Spliced};
+ghost use Rattle.links.specs.Table.{IsUsed, IsUnused, at, view, links, link_at, number_or, Kept, Spliced, Stacked, Headless};
 ghost use Rattle.links.specs.Rows.{SameRoom};
 
 use crate::row::{Heads, Link, LinkRow, Side, Slot, Tally};
@@ -90,19 +90,36 @@ impl<R: Copy> ThreadedRows<R> {
         ensures kept { Kept self.new.rows.items self.new.heads.items result }
         ensures empty { links self.new.rows.items ≡ [] }
         ensures room { SameRoom self.old self.new }
+        ensures stacked { Stacked self.new.rows.items (length self.new.rows.items) }
+        ensures top { result.free.0 ≡ length self.new.rows.items - 1 }
+        ensures headless { Headless self.new.heads.items (length self.new.rows.items) (length self.new.heads.items) }
     {
-        for (k, row) in self.rows.iter_mut().enumerate() {
-            *row = LinkRow::Unused {
-                under: k,
-                below: Slot(k.saturating_sub(1)),
-            };
-        }
-        let none = Slot(self.rows.len());
-        self.heads.fill(Heads {
-            leaving: none,
-            entering: none,
-        });
-        let free = Slot(self.rows.len().saturating_sub(1));
+        let free = stack(self.rows.as_mut_slice());
+        behead(self.heads.as_mut_slice(), Slot(self.rows.len()));
         Tally { count: 0, free }
     }
+}
+
+// Lays each row on the one before, and answers the topmost.
+fn stack<R: Copy>(rows: &mut [LinkRow<R>]) -> Slot
+    ensures stacked { Stacked rows.new (length rows.new) }
+    ensures top { result.0 ≡ length rows.new - 1 }
+{
+    for (k, row) in rows.iter_mut().enumerate() {
+        *row = LinkRow::Unused {
+            under: k,
+            below: Slot(k.saturating_sub(1)),
+        };
+    }
+    Slot(rows.len().saturating_sub(1))
+}
+
+// Lets no link hang at any place.
+fn behead(heads: &mut [Heads], none: Slot)
+    ensures { Headless heads.new none.0 (length heads.new) }
+{
+    heads.fill(Heads {
+        leaving: none,
+        entering: none,
+    });
 }

@@ -1,7 +1,7 @@
 // What a link table does.
 ghost use Rattle.std.specs.Prelude.{◌≡◌, ℕ, ◌+◌, ◌<◌, true, false, ◌↔◌, [], length, filter, vec_len, vec_items};
 ghost use Rattle.links.specs.declared.row.Side.TheVariants.{Leaving, Entering};
-ghost use Rattle.links.specs.Table.{Leads, LinkFrom, Occupied, Taken, Found, link, links};
+ghost use Rattle.links.specs.Table.{Leads, LinkFrom, Occupied, Taken, Found, Lowest, link, links};
 ghost use Rattle.links.specs.Links.{Gained, Lost, Shut, enters};
 ghost use Rattle.links.specs.LinkTable.{held, places, capacity, SameSizes};
 ghost use Rattle.links.specs.LinksAt.{LinksOf, rest};
@@ -92,12 +92,21 @@ impl<R: Copy> LinkTable<R> {
         }
     }
 
+    // The slot at which the thread of p on a side begins, if a link hangs there.
+    fn first(&self, side: Side, p: PlaceNumber) -> Option<Slot>
+        requires { p.0 < places self.now }
+        ensures { Lowest side self.now.threads.rows.items p.0 0 result }
+    {
+        let head = self.threads.heads[p.index()];
+        head.on(side).within(self.capacity())
+    }
+
     // Whether a link leaves p.
     pub fn has_leaving(&self, p: PlaceNumber) -> bool
         requires { p.0 < places self.now }
         ensures { (result ≡ true) ↔ ((v : ℕ) × Leads (held self.now) p.0 v) }
     {
-        self.links_at(Side::Leaving, p).next().is_some()
+        self.first(Side::Leaving, p).is_some()
     }
 
     // The slot of the link from source to target.
@@ -209,8 +218,8 @@ impl<R: Copy> LinkTable<R> {
         ensures counted { length (held self.new) + length (filter (enters p.0) (held self.old)) ≡ length (held self.old) }
         ensures sizes { SameSizes self.old self.new }
     {
-        while let Some(link) = self.links_at(Side::Entering, p).next() {
-            self.remove(link.source, p);
+        while let Some(s) = self.first(Side::Entering, p) {
+            self.remove_slot(s);
         }
     }
 }

@@ -1,34 +1,27 @@
-use Rattle.std.proofs.Common.{◌≡◌, ◌<◌, refl, arith, ◌∙◌, true}
-use Rattle.std.specs.List.{ContainsAt as Has}
-use Rattle.links.specs.declared.row.Side.TheVariants.{Entering}
-use Rattle.links.specs.LinkTable.{held, places}
+use Rattle.std.proofs.Common.{refl, arith, ◌∙◌}
+use Rattle.links.specs.LinkTable.{held}
+use Rattle.links.proofs.Members.{kept_lost, taken_kept, taken_fewer}
 use Rattle.links.proofs.Shuts.{thinned_more, thinned_shut, thinned_number}
-use Rattle.links.proofs.Visits.{first_is, none_is}
-use Rattle.links.proofs.table.LinkTable.remove_entering.Given.{Over}
+use Rattle.links.proofs.Whole.{whole}
 use Rattle.links.proofs.table.LinkTable.remove_entering.Goals as goal
-use Rattle.links.proofs.table.LinkTable.remove_entering.Goals.{In-Some, In_default}
 
--- the link at hand is one that enters p
-here : (g : Over) (c : In-Some g) → let l = c.in-Some.link in Has (held c.loop-link.self) l × (l.target.0 ≡ c.args.p.0) × (l.source.0 < places c.loop-link.self) × (l.target.0 < places c.loop-link.self)
-here g c = first_is Entering (held c.loop-link.self) _ c.args.p.0 c.links_at.result c.links_at.ensures c.in-Some.link c.next.new.self c.in-Some.ensures.steps
+pub loop-s-smaller : goal.loop-s-smaller
+loop-s-smaller g c =
+    let e = c.in-Some.ensures in
+    omega (arith, taken_fewer c.loop-s.self.threads.rows.items c.remove_slot.new.self.threads.rows.items c.in-Some.s.0 e.0 e.1.1 c.remove_slot.ensures.taken)
 
-pub remove-requires : goal.remove-requires
-remove-requires g c = (here g (goal.at.remove-requires g c).In-Some).2
-
-pub loop-link-smaller : goal.loop-link-smaller
-loop-link-smaller g c =
-    let h = here g (goal.at.loop-link-smaller g c).In-Some in
-    let t : c.remove.result ≡ true = c.remove.ensures.told.1 (c.in-Some.link, h.0, refl, h.1) in
-    omega (arith, c.remove.ensures.counted t)
-
-pub loop-link-preserved : goal.loop-link-preserved
-loop-link-preserved g c =
-    let was = c.loop-link.invariant in
-    let now = c.remove.ensures.sizes in
-    record { thinned = thinned_more _ _ c.args.p.0 (held c.remove.new.self) c.in-Some.link.source.0 was.thinned c.remove.ensures.lost; sizes = (now.0 ∙ was.sizes.0, now.1 ∙ was.sizes.1) }
+pub loop-s-preserved : goal.loop-s-preserved
+loop-s-preserved g c =
+    let t = c.loop-s.self in
+    let e = c.in-Some.ensures in
+    let p = c.args.p.0 in
+    let was = c.loop-s.invariant in
+    let now = c.remove_slot.ensures.sizes in
+    let lost = kept_lost _ _ e.0.source.0 p (taken_kept t.threads.rows.items c.remove_slot.new.self.threads.rows.items t.threads.heads.items _ _ e.0.source.0 p c.in-Some.s (whole t) (e.0, e.1, refl, e.2) c.remove_slot.ensures.taken) in
+    record { thinned = thinned_more _ _ p (held c.remove_slot.new.self) e.0.source.0 was.thinned lost; sizes = (now.0 ∙ was.sizes.0, now.1 ∙ was.sizes.1) }
 
 pub returns-clause-shut : goal.returns-clause-shut
-returns-clause-shut g c = thinned_shut _ _ c.args.p.0 c.loop-link.invariant.thinned (none_is Entering (held c.loop-link.self) _ c.args.p.0 c.links_at.result c.links_at.ensures c.next.new.self c.in_default.ensures.steps)
+returns-clause-shut g c = thinned_shut _ _ c.args.p.0 c.loop-s.invariant.thinned (λ m h e. c.in_default.ensures m h e (omega arith))
 
 pub returns-clause-counted : goal.returns-clause-counted
-returns-clause-counted g c = thinned_number _ _ c.args.p.0 c.loop-link.invariant.thinned (none_is Entering (held c.loop-link.self) _ c.args.p.0 c.links_at.result c.links_at.ensures c.next.new.self c.in_default.ensures.steps)
+returns-clause-counted g c = thinned_number _ _ c.args.p.0 c.loop-s.invariant.thinned (λ m h e. c.in_default.ensures m h e (omega arith))
