@@ -1,5 +1,5 @@
 -- What always holds of a graph. Assumes nothing.
-use Rattle.std.proofs.Common.{◌≡◌, ℕ, ◌+◌, ◌<◌, ◌≤◌, false, List, length, get_or, sym, ap, ◌∙◌, subst, subst₂, arith}
+use Rattle.std.proofs.Common.{◌≡◌, ℕ, ◌+◌, ◌<◌, ◌≤◌, false, List, length, sym, ap, ◌∙◌, subst, subst₂}
 use Rattle.paths.specs.Order.{Ranked, moved}
 use Rattle.common.specs.declared.number.PlaceNumber.{PlaceNumber}
 use Rattle.common.specs.declared.number.Rank.{Rank}
@@ -16,7 +16,6 @@ use Rattle.order.specs.Admit.{Admitted}
 use Rattle.order.specs.Graph.{size, linked, ranks_of, order_of}
 use Rattle.order.proofs.Props.{opened}
 use Rattle.order.proofs.Deals.{order_at}
-use Rattle.order.proofs.Ways.{rank_at_lem, place_at}
 use Rattle.order.proofs.Admits.{admitted_moved}
 
 pub sound_of : {R : Type 0} (g : Graph R) → Sound (size g) (ranks_of g) (order_of g) (linked g)
@@ -32,14 +31,6 @@ linked_inside {R} g l h = (sound_of g).inside _ _ _ (leads_of (λ (t : R). t) (l
 
 pub links_of_graph : {R : Type 0} (g : Graph R) (side : Side) (n p : ℕ) (ys : List (Link R)) → LinksOf side (linked g) n p ys → LinksOf side (linked g) (size g) p ys
 links_of_graph g side n p ys e = record { members = e.members; rising = e.rising; inside = λ m h. linked_inside g m ((e.members m).0 h).0 }
-
-pub rank_read : {R : Type 0} (g : Graph R) (p i : ℕ) (r : Rank) → p < length (ranks_of g) → i ≡ p → r ≡ get_or (ranks_of g) i r → r.0 ≡ rank_in (ranks_of g) p
-rank_read g p i r h e is =
-    ap (λ (x : Rank). x.0) (is ∙ ap (λ (k : ℕ). get_or (ranks_of g) k r) e) ∙ sym (rank_at_lem (ranks_of g) p r h)
-
-pub place_read : {R : Type 0} (g : Graph R) (r i : ℕ) (p : PlaceNumber) → r < length (order_of g) → i ≡ r → p ≡ get_or (order_of g) i p → p.0 ≡ place_in (order_of g) r
-place_read g r i p h e is =
-    ap (λ (x : PlaceNumber). x.0) (is ∙ ap (λ (k : ℕ). get_or (order_of g) k p) e) ∙ sym (place_at (order_of g) r p h)
 
 pub place_below : {R : Type 0} (g : Graph R) (r : ℕ) → r < size g → place_in (order_of g) r < size g
 place_below g r h = subst (λ (p : ℕ). p < size g) (order_at (size g) (order_of g) r h) ((sound_of g).below r h)

@@ -8,7 +8,8 @@ mod marks;
 mod ranks;
 
 pub use graph::Graph;
-pub use marks::Marked;
+pub use marks::{Marked, is_marked};
+pub use ranks::{first_ranks, place_with, rank_at};
 
 // The rule makes one order, and the one of the worked example.
 pub fn rule_stands<P>()

@@ -1,6 +1,9 @@
 // Mark bytes, lent for one search.
-ghost use Rattle.std.specs.Prelude.{◌≤◌, length};
+ghost use Rattle.std.specs.Prelude.{◌≡◌, ◌<◌, ◌≤◌, length};
+ghost use Rattle.order.specs.Tables.{is_set};
 ghost use Rattle.order.specs.Marks.{Cleared};
+
+use common::PlaceNumber;
 
 mod calls;
 
@@ -10,6 +13,14 @@ pub struct Marked<'a> {
     pub bytes: &'a mut [u8],
     pub n: usize,
     ghost fits: { n ≤ length bytes.now },
+}
+
+// Whether the mark of p is set.
+pub fn is_marked(marks: &[u8], p: PlaceNumber) -> bool
+    requires { p.0 < length marks.now }
+    ensures { result ≡ is_set marks.now p.0 }
+{
+    marks[p.index()] == 1
 }
 
 fn clear(bytes: &mut [u8], n: usize)

@@ -7,6 +7,22 @@ ghost use Rattle.order.specs.Sharing.{Apart, Below, met, Dealt, Shuffled, Settle
 use super::marks::Marked;
 use common::{PlaceNumber, Rank};
 
+// The rank of p.
+pub fn rank_at(rank_of: &[Rank], p: PlaceNumber) -> Rank
+    requires { p.0 < length rank_of.now }
+    ensures { result.0 ≡ rank_in rank_of.now p.0 }
+{
+    rank_of[p.index()]
+}
+
+// The place that has the rank r.
+pub fn place_with(place_at: &[PlaceNumber], r: Rank) -> PlaceNumber
+    requires { r.0 < length place_at.now }
+    ensures { result.0 ≡ place_in place_at.now r.0 }
+{
+    place_at[r.index()]
+}
+
 // Two slices and no struct of both: `deal` writes the ranks by the order and `settle` the order by the ranks, and types say which each leaves.
 
 // The ranks from low to high, both with them.
@@ -88,16 +104,16 @@ pub(crate) fn share_out(
 }
 
 // Gives each of the n places its number as its rank.
-pub(crate) fn first_ranks(ranks: &mut [Rank], order: &mut [PlaceNumber], n: usize)
-    requires { (n < 2 ^ 31) × ((n ≤ length ranks.old) × (n ≤ length order.old)) }
-    ensures ranks { (p : ℕ) → p < n → rank_in ranks.new p ≡ p }
-    ensures places { (r : ℕ) → r < n → place_in order.new r ≡ r }
-    ensures past { Past n ranks.old ranks.new order.old order.new }
+pub fn first_ranks(rank_of: &mut [Rank], place_at: &mut [PlaceNumber], n: usize)
+    requires { (n < 2 ^ 31) × ((n ≤ length rank_of.old) × (n ≤ length place_at.old)) }
+    ensures ranks { (p : ℕ) → p < n → rank_in rank_of.new p ≡ p }
+    ensures places { (r : ℕ) → r < n → place_in place_at.new r ≡ r }
+    ensures past { Past n rank_of.old rank_of.new place_at.old place_at.new }
 {
-    for (p, rank) in ranks[..n].iter_mut().enumerate() {
+    for (p, rank) in rank_of[..n].iter_mut().enumerate() {
         *rank = Rank::new(p as u32);
     }
-    for (r, place) in order[..n].iter_mut().enumerate() {
+    for (r, place) in place_at[..n].iter_mut().enumerate() {
         *place = PlaceNumber::new(r as u32);
     }
 }

@@ -13,7 +13,7 @@ ghost use Rattle.order.specs.Graph.{size, linked, ranks_of, order_of, place_room
 
 use super::Graph;
 use crate::marks::Marked;
-use crate::ranks::first_ranks;
+use crate::ranks::{first_ranks, place_with, rank_at};
 use common::{PlaceNumber, Rank, Refusal};
 use links::{Link, LinkTable, LinksAt};
 
@@ -25,7 +25,9 @@ impl<R: Copy> Graph<R> {
         ensures room { (n m : ℕ) → RoomFor result n m ↔ ((n ≤ vec_len ranks) × (n ≤ vec_len order) × (n ≤ places_in links) × (m ≤ capacity links)) }
     {
         let mut links = links;
-        links.clear();
+        if links.len() > 0 {
+            links.clear();
+        }
         Graph {
             links,
             ranks,
@@ -78,7 +80,7 @@ impl<R: Copy> Graph<R> {
         requires { p.0 < length (ranks_of self.now) }
         ensures { result.0 ≡ rank_in (ranks_of self.now) p.0 }
     {
-        self.ranks[p.index()]
+        rank_at(&self.ranks, p)
     }
 
     // The place that has the rank r.
@@ -87,7 +89,7 @@ impl<R: Copy> Graph<R> {
         ensures at { result.0 ≡ place_in (order_of self.now) r.0 }
         ensures inside { r.0 < size self.now → result.0 < size self.now }
     {
-        self.order[r.index()]
+        place_with(&self.order, r)
     }
 
     // These ask the link table, and say what it answers over the graph: two sides have two names, since `Side` is the table's own.
@@ -154,7 +156,7 @@ impl<R: Copy> Graph<R> {
         requires marks { size self.old ≤ length marks.old }
         requires clean { Clean (size self.old) marks.old }
         ensures space { SameSpace self.old self.new }
-        ensures links { linked self.new ≡ linked self.old }
+        ensures links { self.new.links ≡ self.old.links }
         ensures still { MatchResult result (λ _. Unit {0}) (λ _. self.new ≡ self.old) }
         ensures marks { marks.new ≡ marks.old }
         ensures answer { MatchResult result (λ _. Admitted (size self.old) (linked self.old) u.0 v.0 (ranks_of self.old) (ranks_of self.new) (order_of self.old) (order_of self.new)) (λ e. (e ≡ Circle) × Circular (linked self.old) u.0 v.0 (ranks_of self.old) (ranks_of self.new) (order_of self.old) (order_of self.new)) }

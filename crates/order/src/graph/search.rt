@@ -53,7 +53,7 @@ impl<R: Copy> Graph<R> {
         requires places { marks.old.n ≡ size self.old }
         requires clean { Clean (size self.old) marks.old.bytes.now }
         ensures space { SameSpace self.old self.new }
-        ensures links { linked self.new ≡ linked self.old }
+        ensures links { self.new.links ≡ self.old.links }
         ensures still { MatchResult result (λ _. Unit {0}) (λ _. self.new ≡ self.old) }
         ensures same { SameLoan marks.old marks.new }
         ensures beyond { Beyond (size self.old) marks.old.bytes.now marks.new.bytes.now }

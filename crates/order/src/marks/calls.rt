@@ -3,7 +3,7 @@ ghost use Rattle.std.specs.Prelude.{◌≡◌, ◌<◌, slice_set};
 ghost use Rattle.order.specs.Loans.{SameLoan};
 ghost use Rattle.order.specs.Tables.{marked_in};
 
-use super::Marked;
+use super::{Marked, is_marked};
 use common::PlaceNumber;
 
 impl Marked<'_> {
@@ -11,8 +11,7 @@ impl Marked<'_> {
     pub fn has(&self, p: PlaceNumber) -> bool
         ensures { result ≡ marked_in self.now.n self.now.bytes.now p.0 }
     {
-        let i = p.index();
-        i < self.n && self.bytes[i] == 1
+        p.index() < self.n && is_marked(self.bytes, p)
     }
 
     // Marks p.

@@ -22,11 +22,11 @@ loop-r-preserved c =
 pub returns-clause-past : goal.returns-clause-past
 returns-clause-past c =
     let n = c.args.n in
-    let long = length-take c.args.n c.args.ranks.now in
-    let wide = length-take c.args.n c.args.order.now in
+    let long = length-take c.args.n c.args.rank_of.now in
+    let wide = length-take c.args.n c.args.place_at.now in
     let all : length c.loop-p.rank-items ≡ c.args.n = omega (arith, c.loop-p.auto.rank-items, c.requires.1.0) in
     let all' : length c.loop-r.place-items ≡ c.args.n = omega (arith, c.loop-r.auto.place-items, c.requires.1.1) in
     record {
-      ranks_stay = λ p h. rest_kept (λ (r : Rank). r.0) c.loop-p.rank-items c.args.ranks.now n p all c.requires.1.0 h;
-      places_stay = λ r h. rest_kept (λ (p : PlaceNumber). p.0) c.loop-r.place-items c.args.order.now n r all' c.requires.1.1 h;
+      ranks_stay = λ p h. rest_kept (λ (r : Rank). r.0) c.loop-p.rank-items c.args.rank_of.now n p all c.requires.1.0 h;
+      places_stay = λ r h. rest_kept (λ (p : PlaceNumber). p.0) c.loop-r.place-items c.args.place_at.now n r all' c.requires.1.1 h;
     }
