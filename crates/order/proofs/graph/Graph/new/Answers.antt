@@ -1,4 +1,4 @@
-use Rattle.std.proofs.Common.{◌≡◌, List, [], ◌∷◌, length, sym, refl, ap, ◌∙◌, subst, arith}
+use Rattle.std.proofs.Common.{◌≡◌, List, [], ◌∷◌, length, sym, refl, ap, ◌∙◌, subst, arith, rules}
 use Rattle.links.specs.LinkTable.{held}
 use Rattle.order.specs.Tables.{Ordered}
 use Rattle.order.proofs.Stays.{keeps_order}
@@ -13,7 +13,7 @@ none (x ∷ xs) e = absurd (omega arith)
 -- no link is left, or there was none
 empty : (g : Over) (c : Joined-len-gt0 g) → held c.if-len-gt0.links ≡ []
 empty g c = elim c.if-len-gt0.branch [
-  | then-len-gt0 w ↦ ap held w.links-is ∙ w.clear.ensures.empty
+  | then-len-gt0 w ↦ search rules
   | else-len-gt0 w ↦ ap held w.links-is ∙ none (held c.args.links) (omega (arith, w.if-len-gt0.false, c.len.ensures))
 ]
 
