@@ -25,16 +25,16 @@ fn lent(heap: Global) -> Result<Tables<u32, ExpiryPassageRow>, AllocError> {
         under: 0,
         below: slot,
     };
-    Ok(Tables::new(
-        vec![in heap; false; PLACES]?,
-        vec![in heap; 0; PLACES]?,
-        vec![in heap; 0; PLACES]?,
-        vec![in heap; Rank::new(0); PLACES]?,
-        vec![in heap; PlaceNumber::new(0); PLACES]?,
-        vec![in heap; heads; PLACES]?,
-        vec![in heap; row; LINKS]?,
-        vec![in heap; 0; PLACES]?,
-    ))
+    Ok(Tables {
+        present: vec![in heap; false; PLACES]?,
+        own: vec![in heap; 0; PLACES]?,
+        labels: vec![in heap; 0; PLACES]?,
+        ranks: vec![in heap; Rank::new(0); PLACES]?,
+        order: vec![in heap; PlaceNumber::new(0); PLACES]?,
+        heads: vec![in heap; heads; PLACES]?,
+        links: vec![in heap; row; LINKS]?,
+        marks: vec![in heap; 0; PLACES]?,
+    })
 }
 
 // Prints what an edit answered.

@@ -1,4 +1,4 @@
-// Taking a place out of the tables of a store.
+// Taking a place out of the columns of a store.
 #![tactic(auto)]
 
 ghost use Rattle.std.specs.Prelude.{◌<◌};
@@ -7,10 +7,10 @@ ghost use Rattle.discarding.specs.Discarded.{Discarded};
 
 use common::PlaceNumber;
 use kinds::LabelKind;
-use tables::{Tables, write};
+use tables::{Columns, write};
 
 // Takes every link into p away, empties its own label and its label, and makes it absent.
-pub fn discard_in<K: LabelKind>(t: &mut Tables<K::Row, K::PassageRow>, p: PlaceNumber)
+pub fn discard_in<K: LabelKind>(t: &mut Columns<K::Row, K::PassageRow>, p: PlaceNumber)
     requires { p.0 < size t.old.graph }
     ensures { Discarded K.means p.0 t.old t.new }
 {

@@ -1,4 +1,4 @@
-// The three edits of a store's tables: each changes an own label or a link, and recomputes.
+// The three edits of a store's columns: each changes an own label or a link, and recomputes.
 #![tactic(auto)]
 
 ghost use Rattle.std.specs.Prelude.{◌≡◌, ◌<◌, ◌≤◌, length, drop, vec_len, vec_items, MatchResult};
@@ -11,11 +11,11 @@ ghost use Rattle.editing.specs.Edited.{Owned, Unlinked, Linked, Circles, Steady}
 use common::{PlaceNumber, Refusal};
 use kinds::LabelKind;
 use recompute::recompute;
-use tables::{Tables, write};
+use tables::{Columns, write};
 
 // Recomputes the labels after an edit at e.
 fn recompute_from<K: LabelKind>(
-    t: &mut Tables<K::Row, K::PassageRow>,
+    t: &mut Columns<K::Row, K::PassageRow>,
     e: PlaceNumber,
     list: &mut [PlaceNumber],
 ) -> (usize, usize)
@@ -39,7 +39,7 @@ fn recompute_from<K: LabelKind>(
 
 // Replaces the own label of p.
 pub fn own_in<K: LabelKind>(
-    t: &mut Tables<K::Row, K::PassageRow>,
+    t: &mut Columns<K::Row, K::PassageRow>,
     p: PlaceNumber,
     label: K,
     list: &mut [PlaceNumber],
@@ -55,7 +55,7 @@ pub fn own_in<K: LabelKind>(
 
 // Takes the link from u to v out, if there is one.
 pub fn unlink_in<K: LabelKind>(
-    t: &mut Tables<K::Row, K::PassageRow>,
+    t: &mut Columns<K::Row, K::PassageRow>,
     u: PlaceNumber,
     v: PlaceNumber,
     list: &mut [PlaceNumber],
@@ -71,7 +71,7 @@ pub fn unlink_in<K: LabelKind>(
 
 // Puts a link from u to v in, unless it closes a circle.
 pub fn link_in<K: LabelKind>(
-    t: &mut Tables<K::Row, K::PassageRow>,
+    t: &mut Columns<K::Row, K::PassageRow>,
     u: PlaceNumber,
     v: PlaceNumber,
     row: K::PassageRow,

@@ -1,4 +1,4 @@
--- What a store says: what its tables say, and its permit. Assumes nothing.
+-- What a store says: what its columns say, and its permit. Assumes nothing.
 use Rattle.std.specs.Prelude.{Some, None, Option}
 use Rattle.std.specs.declared.cmp.PartialEq.{Ghosts as Eqs}
 use Rattle.kinds.specs.declared.kind.LabelKind.{Ghosts}
@@ -16,4 +16,4 @@ permit_in (Some g) = out g.place.0 g.day.number
 
 module _ {K P R S : Type 0} (m : Meaning K P R S) where
   abbrev pub view : {G : Ghosts K P R S} {E : Eqs K} → Store K P R S G E → State m.Value P
-  view s = state_of m s.n s.m (permit_in s.permit) s.tables.now
+  view s = state_of m s.n s.m (permit_in s.permit) s.tables.columns

@@ -1,2 +1,2 @@
-pub mod Columns
+pub mod Column
 pub mod Views

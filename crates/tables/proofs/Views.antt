@@ -1,4 +1,4 @@
--- The links that the tables of a store show. Assumes nothing.
+-- The links that the columns of a store show. Assumes nothing.
 use Rattle.std.proofs.Common.{◌≡◌, ℕ, ◌<◌, Bool, true, false, cond, eqb, List, [], sym, refl, ap, ◌∙◌, subst, arith}
 use Rattle.std.proofs.lemmas.Bool.{cond-false, ne_eqb}
 use Rattle.paths.specs.Ledger.{Link, Leads}

@@ -1,4 +1,4 @@
--- The checks of the tables, and what they say once cleared for a new store. Assumes nothing.
+-- The checks of the lent tables, and what the columns say once cleared for a new store. Assumes nothing.
 use Rattle.std.specs.Prelude.{◌≡◌, ℕ, false, List, [], ◌∷◌, drop, vec_items}
 use Rattle.common.specs.Checks.{Check, ◌when◌}
 use Rattle.common.specs.declared.refusal.Refusal.{Refusal}
@@ -7,17 +7,18 @@ use Rattle.paths.specs.Order.{upto}
 use Rattle.kinds.specs.Meanings.{Meaning}
 use Rattle.order.specs.Tables.{order_in}
 use Rattle.order.specs.Graph.{size, linked, order_of}
+use Rattle.tables.specs.declared.columns.Columns.{Columns}
 use Rattle.tables.specs.declared.tables.Tables.{Tables}
-use Rattle.tables.specs.Room.{Limits, Room}
+use Rattle.tables.specs.Room.{Limits, Room, ColumnRoom}
 use Rattle.tables.specs.Columns.{present_in, values_in}
 
 -- the checks of making, in order
 abbrev pub making : {R S : Type 0} → Tables R S → ℕ → ℕ → List (Check Refusal)
 making t n m = (BadSize when (Limits n m → ⊥)) ∷ (ShortTable when (Room t n m → ⊥)) ∷ []
 
--- new are the tables old, cleared for a new store of n places for m links
-pub record Cleared {K P R S : Type 0} (means : Meaning K P R S) (n m : ℕ) (old new : Tables R S) : Type 0 where
-  pub room : Room new n m
+-- new are the columns old, cleared for a new store of n places for m links
+pub record Cleared {K P R S : Type 0} (means : Meaning K P R S) (n m : ℕ) (old new : Columns R S) : Type 0 where
+  pub room : ColumnRoom new n m
   pub places : size new.graph ≡ n
   pub present : (p : ℕ) → present_in n (vec_items new.present) p ≡ false
   pub own : (p : ℕ) → values_in means n (vec_items new.own) p ≡ means.kind.empty

@@ -1,4 +1,4 @@
--- What the tables of a store say: its places, ledger, labels and order. Assumes nothing.
+-- What the columns of a store say: its places, ledger, labels and order. Assumes nothing.
 use Rattle.std.specs.Prelude.{ℕ, cond, List, [], vec_items, ◌==◌}
 use Rattle.paths.specs.Ledger.{Link, Ledger}
 use Rattle.kinds.specs.Meanings.{Meaning}
@@ -8,7 +8,7 @@ use Rattle.order.specs.Tables.{order_in}
 use Rattle.order.specs.Graph.{linked, order_of}
 use Rattle.law.specs.Calls.{Permit}
 use Rattle.law.specs.State.{State}
-use Rattle.tables.specs.declared.tables.Tables.{Tables}
+use Rattle.tables.specs.declared.columns.Columns.{Columns}
 use Rattle.tables.specs.Columns.{present_in, values_in}
 
 module _ {K P R S : Type 0} (m : Meaning K P R S) where
@@ -16,7 +16,7 @@ module _ {K P R S : Type 0} (m : Meaning K P R S) where
   abbrev pub links_of : ℕ → List (Row S) → List (Link P)
   links_of n xs = cond (n == 0) [] (arrows m.leads xs)
 
-  abbrev pub ledger_of : ℕ → Tables R S → Ledger m.Value P
+  abbrev pub ledger_of : ℕ → Columns R S → Ledger m.Value P
   ledger_of n t =
       record {
         present = present_in n (vec_items t.present);
@@ -24,11 +24,11 @@ module _ {K P R S : Type 0} (m : Meaning K P R S) where
         links = links_of n (linked t.graph);
       }
 
-  abbrev pub labels_of : ℕ → Tables R S → ℕ → m.Value
+  abbrev pub labels_of : ℕ → Columns R S → ℕ → m.Value
   labels_of n t = values_in m n (vec_items t.labels)
 
-  -- a store of n places for limit links over these tables, with this permit out
-  abbrev pub state_of : ℕ → ℕ → Permit → Tables R S → State m.Value P
+  -- a store of n places for limit links over these columns, with this permit out
+  abbrev pub state_of : ℕ → ℕ → Permit → Columns R S → State m.Value P
   state_of n limit permit t =
       record {
         places = n;

@@ -1,8 +1,8 @@
-// Entries of the tables of places.
+// Entries of the columns of places.
 ghost use Rattle.std.specs.Prelude.{◌≡◌, ◌<◌, true, length, vec_len, slice_index_or, slice_set};
 ghost use Rattle.order.specs.Graph.{size};
 
-use super::tables::Tables;
+use super::columns::Columns;
 use common::PlaceNumber;
 
 // The entry of p.
@@ -23,7 +23,7 @@ pub fn write<X: Copy>(table: &mut Vec<X>, p: PlaceNumber, x: X)
     table[p.index()] = x;
 }
 
-impl<R: Copy, S: Copy> Tables<R, S> {
+impl<R: Copy, S: Copy> Columns<R, S> {
     // Makes p present.
     pub fn bring(&mut self, p: PlaceNumber)
         requires { p.0 < size self.old.graph }

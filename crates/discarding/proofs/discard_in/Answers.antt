@@ -2,7 +2,7 @@ use Rattle.std.proofs.Common.{◌≡◌, ◌<◌, Bool, false, List, length, ref
 use Rattle.paths.specs.Calls.{put}
 use Rattle.order.specs.Graph.{size}
 use Rattle.tables.specs.Columns.{present_in, values_in}
-use Rattle.tables.proofs.Columns.{column_set}
+use Rattle.tables.proofs.Column.{column_set}
 use Rattle.discarding.proofs.discard_in.Goals as goal
 
 pub returns : goal.returns

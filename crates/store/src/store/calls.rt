@@ -13,7 +13,7 @@ use crate::store::Store;
 use common::{PlaceNumber, Refusal};
 use editing::{link_in, own_in, unlink_in};
 use kinds::LabelKind;
-use tables::{Tables, clear, read};
+use tables::{Columns, Lent, Tables, clear, read};
 
 impl<'a, K: LabelKind> Store<'a, K> {
     // Makes a store of n places for at most m links. Where the sizes or the tables are refused, the store has no places, and `made` says why.
@@ -21,6 +21,12 @@ impl<'a, K: LabelKind> Store<'a, K> {
         ensures { Makes K.means tables.old n m result }
     {
         if let Err(e) = tables.check(n, m) {
+            let columns = Columns::new(Tables::empty(*tables.present.allocator()));
+            let tables = Lent {
+                lender: tables,
+                columns,
+                taken: false,
+            };
             return Store {
                 tables,
                 n: 0,
@@ -29,7 +35,13 @@ impl<'a, K: LabelKind> Store<'a, K> {
                 made: Err(e),
             };
         }
-        clear::<K>(&mut *tables, n, m);
+        let mut columns = Columns::new(tables.take());
+        clear::<K>(&mut columns, n, m);
+        let tables = Lent {
+            lender: tables,
+            columns,
+            taken: true,
+        };
         Store {
             tables,
             n,
@@ -57,9 +69,9 @@ impl<K: LabelKind> Store<'_, K> {
 
     pub(crate) fn is_present(&self, p: PlaceNumber) -> bool
         requires { p.0 < self.now.n }
-        ensures { result ≡ present_in self.now.n self.now.tables.now.present.items p.0 }
+        ensures { result ≡ present_in self.now.n self.now.tables.columns.present.items p.0 }
     {
-        read(&self.tables.present, p)
+        read(&self.tables.columns.present, p)
     }
 
     // Whether a link leads from u to v.
@@ -68,7 +80,7 @@ impl<K: LabelKind> Store<'_, K> {
         ensures yes { result ≡ true → IsLinked (view K.means self.now).ledger.links u.0 v.0 }
         ensures no { result ≡ false → IsLinked (view K.means self.now).ledger.links u.0 v.0 → ⊥ }
     {
-        self.tables.graph.is_linked(u, v)
+        self.tables.columns.graph.is_linked(u, v)
     }
 
     // How many links there are.
@@ -76,7 +88,7 @@ impl<K: LabelKind> Store<'_, K> {
         requires { 0 < self.now.n }
         ensures { result ≡ length (view K.means self.now).ledger.links }
     {
-        self.tables.graph.count()
+        self.tables.columns.graph.count()
     }
 
     // The checks that link and unlink share: no permit is out, the list is long enough, and both places are there and present.
@@ -115,7 +127,7 @@ impl<K: LabelKind> Store<'_, K> {
         if self.is_present(p) {
             return Err(Refusal::Present);
         }
-        self.tables.bring(p);
+        self.tables.columns.bring(p);
         Ok(())
     }
 
@@ -130,7 +142,7 @@ impl<K: LabelKind> Store<'_, K> {
         if !self.is_present(p) {
             return Err(Refusal::Absent);
         }
-        Ok(K::from_row(read(&self.tables.labels, p)))
+        Ok(K::from_row(read(&self.tables.columns.labels, p)))
     }
 
     // Replaces the own label of a place, and writes the reported places to the list. Answers how many were reported, and how many changed.
@@ -156,7 +168,7 @@ impl<K: LabelKind> Store<'_, K> {
         if !self.is_present(p) {
             return Err(Refusal::Absent);
         }
-        Ok(own_in::<K>(&mut *self.tables, p, label, list))
+        Ok(own_in::<K>(&mut self.tables.columns, p, label, list))
     }
 
     // Takes the link from u to v away, and writes the reported places to the list. Answers how many were reported, and how many changed.
@@ -174,7 +186,7 @@ impl<K: LabelKind> Store<'_, K> {
         if !self.is_linked(u, v) {
             return Err(Refusal::NotLinked);
         }
-        Ok(unlink_in::<K>(&mut *self.tables, u, v, list))
+        Ok(unlink_in::<K>(&mut self.tables.columns, u, v, list))
     }
 
     // Links u to v, unless it closes a circle, and writes the reported places to the list. Answers how many were reported, and how many changed.
@@ -197,6 +209,6 @@ impl<K: LabelKind> Store<'_, K> {
             return Err(Refusal::Full);
         }
         let row = K::passage_to_row(passage);
-        link_in::<K>(&mut *self.tables, u, v, row, list)
+        link_in::<K>(&mut self.tables.columns, u, v, row, list)
     }
 }

@@ -2,14 +2,14 @@ use Rattle.std.proofs.Common.{◌≡◌, false, length, take, drop, refl, ap, �
 use Rattle.std.proofs.lemmas.List.{with_items_is}
 use Rattle.order.specs.Graph.{order_of}
 use Rattle.order.proofs.Graphs.{sound_of}
-use Rattle.tables.proofs.Columns.{column_flat, first_order}
+use Rattle.tables.proofs.Column.{column_flat, first_order}
 use Rattle.tables.proofs.making.clear.Goals as goal
 
 pub returns : goal.returns
 returns g c =
     let n = c.args.n in
     let means = g.K.LabelKind.means in
-    let old = c.args.tables.now in
+    let old = c.args.columns.now in
     let room = c.requires.room in
     let G = c.reset.new.self in
     let row = c.to_row-row.result in

@@ -8,7 +8,7 @@ use Rattle.order.specs.Graph.{linked, order_of}
 use Rattle.tables.specs.Columns.{present_in, values_in}
 use Rattle.tables.specs.View.{links_of}
 use Rattle.store.specs.View.{permit_in}
-use Rattle.tables.proofs.Columns.{column_set}
+use Rattle.tables.proofs.Column.{column_set}
 use Rattle.store.proofs.store.Store.bring.Goals as goal
 
 pub returns-clause-told : goal.returns-clause-told
@@ -17,14 +17,14 @@ returns-clause-told g c =
     let P = g.row.K-Passage.Denot in
     let self = c.args.self.now in
     let n = self.n in
-    let flags = self.tables.now.present.items in
+    let flags = self.tables.columns.present.items in
     let new = c.bring.new.self in
     let e = c.bring.ensures in
     let low : c.args.p.0 < self.n = omega (arith, c.if-index-self.false, c.index.ensures) in
-    let in' : c.args.p.0 < length self.tables.now.present.items = omega (arith, low, self.room.0.0.0, self.tables.now.present.ok.0) in
+    let in' : c.args.p.0 < length self.tables.columns.present.items = omega (arith, low, self.room.0.0.0, self.tables.columns.present.ok.0) in
     let write : (q : ℕ) → present_in n new.present.items q ≡ put (present_in n flags) c.args.p.0 true q =
     λ q. ap (λ (bs : List Bool). present_in n bs q) e.entry ∙ column_set (λ b. b) false n flags c.args.p.0 true low in' q in
-    let links : links_of m n (linked new.graph) ≡ links_of m n (linked self.tables.now.graph) = ap (λ G. links_of m n (linked G)) e.rest.2 in
+    let links : links_of m n (linked new.graph) ≡ links_of m n (linked self.tables.columns.graph) = ap (λ G. links_of m n (linked G)) e.rest.2 in
     record {
       passed = (
         λ e. both_ways (is_out (permit_in self.permit)) (sym c.permit_is_out.ensures ∙ c.if-permit_is_out.false) e,

@@ -27,7 +27,7 @@ use Rattle.store.proofs.store.Store.link.Goals as goal
 pub link_in-requires-clause-fresh : goal.link_in-requires-clause-fresh
 link_in-requires-clause-fresh g c =
     let self = c.args.self.now in
-    λ h. c.is_linked.ensures.no c.if-is_linked.false (linked_by g.K.LabelKind.means self.n (linked self.tables.now.graph) (elim_some self.n c.args.u.0 c.in_ok-ends.ensures.1.1.0) c.args.u.0 c.args.v.0 h)
+    λ h. c.is_linked.ensures.no c.if-is_linked.false (linked_by g.K.LabelKind.means self.n (linked self.tables.columns.graph) (elim_some self.n c.args.u.0 c.in_ok-ends.ensures.1.1.0) c.args.u.0 c.args.v.0 h)
 
 pub returns-clause-told : goal.returns-clause-told
 returns-clause-told g c =
@@ -37,7 +37,7 @@ returns-clause-told g c =
     let k = m.kind in
     let self = c.args.self.now in
     let n = self.n in
-    let old = self.tables.now in
+    let old = self.tables.columns in
     let new = c.link_in.new.t in
     let xs = linked old.graph in
     let ys = linked new.graph in
