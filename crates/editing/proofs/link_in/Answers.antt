@@ -1,4 +1,4 @@
-use Rattle.std.proofs.Common.{◌≡◌, sym, subst}
+use Rattle.std.proofs.Common.{sym, subst}
 use Rattle.order.specs.Graph.{size, linked, ranks_of, order_of}
 use Rattle.order.specs.Admit.{Admitted}
 use Rattle.links.specs.Table.{link}

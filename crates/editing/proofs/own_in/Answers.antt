@@ -1,4 +1,4 @@
-use Rattle.std.proofs.Common.{◌≡◌, ℕ, ◌≤◌, length, refl, sym, ap, ◌∙◌, subst, arith}
+use Rattle.std.proofs.Common.{◌≤◌, length, refl, sym, ap, ◌∙◌, subst, arith}
 use Rattle.paths.specs.Walk.{Put}
 use Rattle.order.specs.Graph.{size, linked, ranks_of, SameSpace}
 use Rattle.recompute.specs.Tables.{value_in}

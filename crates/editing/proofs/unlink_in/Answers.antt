@@ -1,4 +1,4 @@
-use Rattle.std.proofs.Common.{◌≡◌, ◌≤◌, length, sym, ap, ◌∙◌, subst}
+use Rattle.std.proofs.Common.{◌≤◌, length, sym, ap, subst}
 use Rattle.order.specs.Graph.{size, linked, ranks_of, SameSpace, SameRanks}
 use Rattle.links.specs.Links.{Lost}
 use Rattle.recompute.specs.Tables.{Recomputes}

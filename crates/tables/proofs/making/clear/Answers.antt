@@ -1,4 +1,4 @@
-use Rattle.std.proofs.Common.{◌≡◌, false, length, take, drop, refl, ap, ◌∙◌, rules, arith}
+use Rattle.std.proofs.Common.{◌≡◌, false, take, drop, refl, ap, ◌∙◌, rules, arith}
 use Rattle.std.proofs.lemmas.List.{with_items_is}
 use Rattle.order.specs.Graph.{order_of}
 use Rattle.order.proofs.Graphs.{sound_of}
