@@ -3,7 +3,7 @@ ghost use Rattle.std.specs.Prelude.{◌≡◌, ℕ, ◌+◌, ◌^◌, ◌<◌, �
 ghost use Rattle.common.specs.declared.refusal.Refusal.TheVariants.{Circle};
 ghost use Rattle.links.specs.Table.{Leads, LinkFrom, link as link_of};
 ghost use Rattle.links.specs.Links.{Gained, Lost, Shut};
-ghost use Rattle.links.specs.LinkTable.{held, capacity, places as places_in};
+ghost use Rattle.links.specs.LinkTable.{held, capacity, places as places_in, SameSizes};
 ghost use Rattle.links.specs.declared.row.Side.TheVariants.{Leaving, Entering};
 ghost use Rattle.links.specs.LinksAt.{LinksOf, rest};
 ghost use Rattle.order.specs.Tables.{rank_in, place_in, Past};
@@ -17,6 +17,16 @@ use crate::ranks::{first_ranks, place_with, rank_at};
 use common::{PlaceNumber, Rank, Refusal};
 use links::{Link, LinkTable, LinksAt};
 
+// Takes every link out. A table without links is left as it is: to clear it costs its whole memory.
+fn drain<R: Copy>(links: &mut LinkTable<R>)
+    ensures empty { held links.new ≡ [] }
+    ensures sizes { SameSizes links.old links.new }
+{
+    if links.len() > 0 {
+        links.clear();
+    }
+}
+
 impl<R: Copy> Graph<R> {
     // A graph without places, in this memory.
     pub fn new(links: LinkTable<R>, ranks: Vec<Rank>, order: Vec<PlaceNumber>) -> Graph<R>
@@ -25,9 +35,7 @@ impl<R: Copy> Graph<R> {
         ensures room { (n m : ℕ) → RoomFor result n m ↔ ((n ≤ vec_len ranks) × (n ≤ vec_len order) × (n ≤ places_in links) × (m ≤ capacity links)) }
     {
         let mut links = links;
-        if links.len() > 0 {
-            links.clear();
-        }
+        drain(&mut links);
         Graph {
             links,
             ranks,
@@ -144,7 +152,7 @@ impl<R: Copy> Graph<R> {
         ensures past { Past n (ranks_of self.old) (ranks_of self.new) (order_of self.old) (order_of self.new) }
         ensures room { (k m : ℕ) → RoomFor self.old k m → RoomFor self.new k m }
     {
-        self.links.clear();
+        drain(&mut self.links);
         first_ranks(self.ranks.as_mut_slice(), self.order.as_mut_slice(), n);
         self.places = n;
     }
