@@ -72,6 +72,9 @@ pub(crate) fn put_claims<S: Sink>(out: &mut S, claims: Claims)
 {
     // Not an index: each number of the range is a claim.
     for k in 0..64 {
+        if out.is_full() {
+            return;
+        }
         put_claim(out, claims, k);
     }
 }

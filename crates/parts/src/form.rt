@@ -88,6 +88,9 @@ impl<P: PartText> TextForm for P {
         if P::is_none(value) {
             return started;
         }
+        if out.is_full() {
+            return true;
+        }
         put_open(out, started);
         P::put_inside(value, out);
         out.put(b")");
