@@ -1,5 +1,5 @@
 -- What a sorted thread says of the links. Assumes nothing.
-use Rattle.std.proofs.Common.{◌≡◌, ℕ, ◌<◌, ◌↔◌, Bool, true, false, cond, eqb, ltb, List, length, get_or, Some, None, Option, is_some, sym, refl, ap, ◌∙◌, subst, arith, eqb-true, eq-eqb, ltb-false, ltb-true}
+use Rattle.std.proofs.Common.{◌≡◌, ℕ, suc, ◌<◌, ◌↔◌, Bool, true, false, cond, eqb, ltb, List, length, get_or, Some, None, Option, is_some, sym, refl, ap, ◌∙◌, subst, arith, eqb-true, eq-eqb, ltb-false, ltb-true}
 use Rattle.std.specs.Bool.{then_some}
 use borrow.Author.Tests.{both_ways}
 use Rattle.links.specs.declared.row.Slot.{Slot}
@@ -9,10 +9,9 @@ use Rattle.links.specs.declared.row.Side.{Side}
 use Rattle.links.specs.declared.row.Side.TheVariants.{Leaving, Entering}
 use Rattle.links.specs.Threads.{Least, Sorted, Gap}
 use Rattle.links.specs.declared.row.Link.{Link}
-use Rattle.links.specs.Table.{Shape, at, hub, key, view, Sound, Leads, LinkFrom, linked, links, Lowest, Found, slot_of, end_of, key_of, head_of, no_heads}
+use Rattle.links.specs.Table.{Shape, at, hub, key, next, view, Sound, Leads, LinkFrom, linked, links, Lowest, Next, Found, slot_of, end_of, key_of, head_of, no_heads}
 use Rattle.links.proofs.Held.{live_link, link_live}
 use Rattle.links.proofs.Haves.{slot_having, of_slot}
-use Rattle.links.proofs.Rows.{head_read}
 
 pub end_by : {R : Type 0} (side : Side) (l : Link R) (x : Shape) → l.source.0 ≡ x.source → l.target.0 ≡ x.target → end_of side l ≡ hub side x
 end_by Leaving l x e f = e
@@ -57,12 +56,21 @@ least_lowest {R} side rows heads p b s least = go (ltb s (length rows)) refl
         let o = least.least j w.1 (sym (end_by side m (at rows j) (sym w.2) (sym w.3)) ∙ f) (omega arith) in
         omega (arith, o.0)
 
--- the slot at which a thread begins, as it is read
-pub first_lowest : {R : Type 0} (side : Side) (rows : List (LinkRow R)) (heads : List Heads) (count free : ℕ) → Sound rows heads count free → (p : ℕ) (h : Heads) (s n : ℕ) (r : Option Slot) →
-    p < length heads → h ≡ get_or heads p h → s ≡ head_of side h → n ≡ length rows → r ≡ slot_of n s → Lowest side rows p 0 r
-first_lowest side rows heads count free so p h s n r i e f g q =
-    let is : s ≡ head_of side (get_or heads p no_heads) = f ∙ ap (head_of side) (head_read heads p h i e) in
+-- the slot at which a thread begins
+pub first_lowest : {R : Type 0} (side : Side) (rows : List (LinkRow R)) (heads : List Heads) (count free : ℕ) → Sound rows heads count free → (p s n : ℕ) (r : Option Slot) →
+    p < length heads → s ≡ head_of side (get_or heads p no_heads) → n ≡ length rows → r ≡ slot_of n s → Lowest side rows p 0 r
+first_lowest side rows heads count free so p s n r i is g q =
     subst (Lowest side rows p 0) (sym (q ∙ ap (λ k. slot_of k s) g ∙ ap (slot_of (length rows)) is)) (least_lowest side rows heads p 0 (head_of side (get_or heads p no_heads)) ((sorted_of side rows heads count free so).first p i))
+
+-- the slot after a link
+pub next_lowest : {R : Type 0} (side : Side) (rows : List (LinkRow R)) (heads : List Heads) (count free s : ℕ) → Sound rows heads count free → Next side rows s (slot_of (length rows) (next side (at rows s)))
+next_lowest {R} side rows heads count free s so l q =
+    let w = link_live rows s l q in
+    let e = end_by side l (at rows s) (sym w.2) (sym w.3) in
+    let k = key_by side l (at rows s) (sym w.2) (sym w.3) in
+    let o = (sorted_of side rows heads count free so).later s w.1 in
+    least_lowest side rows heads (end_of side l) (suc (key_of side l)) (next side (at rows s))
+    (subst (λ c. Least (view side rows heads) (end_of side l) (suc c) (next side (at rows s))) (sym k) (subst (λ c. Least (view side rows heads) c (suc (key side (at rows s))) (next side (at rows s))) (sym e) o))
 
 -- whether a thread begins at a slot is whether a link leaves the place
 pub lowest_leaves : {R : Type 0} (rows : List (LinkRow R)) (p : ℕ) (r : Option Slot) → Lowest Leaving rows p 0 r → (is_some r ≡ true) ↔ ((v : ℕ) × Leads (links rows) p v)

@@ -14,6 +14,7 @@ pub mod Rests
 pub mod Visits
 pub mod Holding
 pub mod Whole
+pub mod Lends
 pub mod Props
 pub mod Members
 pub mod Clears

@@ -6,9 +6,10 @@ use base.Stored.{coded_ℕ}
 use Rattle.links.specs.declared.row.LinkRow.{LinkRow}
 use Rattle.links.specs.declared.row.Heads.{Heads}
 use Rattle.links.specs.declared.row.Tally.{Tally}
+use Rattle.links.specs.declared.row.Side.{Side}
 use Rattle.links.specs.declared.row.Side.TheVariants.{Leaving, Entering}
 use Rattle.links.specs.Threads.{Threads, Least, Sorted, Single}
-use Rattle.links.specs.Table.{at, view, links, Free, Sound, Kept}
+use Rattle.links.specs.Table.{at, view, links, Free, Climbing, Sound, Kept}
 
 least_prop : (t : Threads) (p b s : ℕ) → IsProp (Least t p b s)
 least_prop t p b s x y = λ i. record { here = h x.here y.here i; least = l x.least y.least i }
@@ -64,6 +65,9 @@ sound_prop rows heads count free x y = λ i. record {
 
     c : IsProp (length (links rows) ≡ count)
     c = hlevel props
+
+pub climbing_prop : {R : Type 0} (side : Side) (rows : List (LinkRow R)) → IsProp (Climbing side rows)
+climbing_prop side rows = hlevel props
 
 pub opened : {R : Type 0} (rows : List (LinkRow R)) (heads : List Heads) (tally : Tally) → Kept rows heads tally → Sound rows heads tally.count tally.free.0
 opened rows heads tally t = ∥∥₁_elim t (sound_prop rows heads tally.count tally.free.0) (λ x. x)

@@ -1,7 +1,6 @@
 pub mod Threads
 pub mod Table
 pub mod Links
-pub mod Rows
 pub mod LinkTable
 pub mod LinksAt
 pub mod Theory

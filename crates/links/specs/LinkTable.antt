@@ -6,14 +6,14 @@ use Rattle.links.specs.Table.{links}
 
 -- the links that a table holds
 abbrev pub held : {R : Type 0} → LinkTable R → List (Link R)
-held t = links t.threads.rows.items
+held t = links t.rows.items
 
 -- how many places its links may lead between, and how many links there is room for
 abbrev pub places : {R : Type 0} → LinkTable R → ℕ
-places t = vec_len t.threads.heads
+places t = vec_len t.heads
 
 abbrev pub capacity : {R : Type 0} → LinkTable R → ℕ
-capacity t = vec_len t.threads.rows
+capacity t = vec_len t.rows
 
 -- a table as large as another
 abbrev pub SameSizes : {R : Type 0} → LinkTable R → LinkTable R → Type 0

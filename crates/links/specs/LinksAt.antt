@@ -5,8 +5,7 @@ use Rattle.links.specs.declared.row.Link.{Link}
 use Rattle.links.specs.declared.row.LinkRow.{LinkRow}
 use Rattle.links.specs.declared.row.Side.{Side}
 use Rattle.links.specs.declared.table.links_at.LinksAt.{LinksAt}
-use Rattle.links.specs.Table.{at, next, link_at, end_of, key_of}
-use Rattle.links.specs.LinkTable.{places}
+use Rattle.links.specs.Table.{at, next, link_at, end_of, key_of, above}
 
 -- links by rising number of the other end: none twice
 abbrev pub Rising : {R : Type 0} → Side → List (Link R) → Type 0
@@ -31,4 +30,4 @@ onward side rows (suc n) s = then (link_at rows s) (onward side rows n (next sid
 
 -- the links that are still to come
 unfoldable pub rest : {R : Type 0} → LinksAt R → List (Link R)
-rest it = onward it.side it.table.now.threads.rows.items (places it.table.now) it.at.0
+rest it = onward it.side it.rows.now (above it.side it.rows.now) it.at.0

@@ -167,6 +167,15 @@ Lowest {R} side rows p b (Some s) =
     (l : Link R) × Holds rows s.0 l × (end_of side l ≡ p) × (b ≤ key_of side l) ×
     ((m : Link R) → Has (links rows) m → end_of side m ≡ p → b ≤ key_of side m → key_of side l ≤ key_of side m)
 
+-- the next one after the link in the slot s
+abbrev pub Next : {R : Type 0} → Side → List (LinkRow R) → ℕ → Option Slot → Type 0
+Next {R} side rows s r = (l : Link R) → link_at rows s ≡ Some l → Lowest side rows (end_of side l) (suc (key_of side l)) r
+
+-- the link in the slot s, where there is one, between places below n
+abbrev pub Told : {R : Type 0} → List (LinkRow R) → ℕ → ℕ → Option (Link R) → Type 0
+Told rows n s None = link_at rows s ≡ None
+Told rows n s (Some l) = (link_at rows s ≡ Some l) × (l.source.0 < n) × (l.target.0 < n)
+
 -- the slot of the link from u to v, if there is one
 abbrev pub Found : {R : Type 0} → List (LinkRow R) → ℕ → ℕ → Option Slot → Type 0
 Found {R} rows u v None = Leads (links rows) u v → ⊥
@@ -182,6 +191,16 @@ IsUnused rows s = (s < length rows) × ((at rows s).unused ≢ 0)
 -- s, if it is one of n slots
 abbrev pub slot_of : ℕ → ℕ → Option Slot
 slot_of n s = cond (nat_lt s n) (Some (record { 0 = s })) None
+
+-- on one side each link goes on to one with a greater other end
+abbrev pub Climbing : {R : Type 0} → Side → List (LinkRow R) → Type 0
+Climbing side rows =
+    (s : ℕ) → (at rows s).unused ≡ 0 → (at rows (next side (at rows s))).unused ≡ 0 → key side (at rows s) < key side (at rows (next side (at rows s)))
+
+-- a number above the other end of each row
+abbrev pub above : {R : Type 0} → Side → List (LinkRow R) → ℕ
+above side [] = 0
+above side (x ∷ rows) = suc (key side (shape x)) + above side rows
 
 -- rows below n lie on one another, each on the one before
 abbrev pub Stacked : {R : Type 0} → List (LinkRow R) → ℕ → Type 0

@@ -1,17 +1,23 @@
-use Rattle.links.proofs.Members.{kept_lost, taken_kept, absent_kept, taken_fewer}
-use Rattle.links.proofs.Whole.{whole}
+use Rattle.std.proofs.Common.{◌≡◌, length, rules}
+use Rattle.std.proofs.lemmas.List.{with_items_is}
+use Rattle.links.proofs.Lends.{kept_lent, kept_back}
 use Rattle.links.proofs.table.LinkTable.remove.Goals as goal
 
-pub returns-in-Some-clause-lost : goal.returns-in-Some-clause-lost
-returns-in-Some-clause-lost g c =
-    let t = c.args.self.now in
-    kept_lost _ _ c.args.source.0 c.args.target.0
-    (taken_kept t.threads.rows.items c.remove_slot.new.self.threads.rows.items t.threads.heads.items _ _ c.args.source.0 c.args.target.0 c.in-Some.s (whole t) c.in-Some.ensures c.remove_slot.ensures.taken)
+pub remove-requires-clause-sound : goal.remove-requires-clause-sound
+remove-requires-clause-sound g c = kept_lent c.args.self.now _ _ c.as_mut_slice-rows.ensures.value c.as_mut_slice-heads.ensures.value
 
-pub returns-in-Some-clause-counted : goal.returns-in-Some-clause-counted
-returns-in-Some-clause-counted g c =
-    let f = c.in-Some.ensures in
-    λ _. taken_fewer c.args.self.now.threads.rows.items c.remove_slot.new.self.threads.rows.items c.in-Some.s.0 f.0 f.1.1 c.remove_slot.ensures.taken
+pub invariant_of-self : goal.invariant_of-self
+invariant_of-self g c = record { kept = kept_back c.args.self.now c.remove.new.rows c.remove.new.heads c.remove.new.tally (search rules) (search rules) c.remove.ensures.sound }
 
-pub returns-in-None-clause-lost : goal.returns-in-None-clause-lost
-returns-in-None-clause-lost g c = kept_lost _ _ c.args.source.0 c.args.target.0 (absent_kept c.args.self.now.threads.rows.items c.args.source.0 c.args.target.0 c.in-None.ensures)
+pub returns-clause-lost : goal.returns-clause-lost
+returns-clause-lost g c =
+    let long : length c.remove.new.rows ≡ c.args.self.now.rows.len = search rules in
+    rw (with_items_is c.args.self.now.rows c.remove.new.rows long) (rw c.as_mut_slice-rows.ensures.value at c.remove.ensures.lost)
+
+pub returns-clause-counted : goal.returns-clause-counted
+returns-clause-counted g c =
+    let long : length c.remove.new.rows ≡ c.args.self.now.rows.len = search rules in
+    rw (with_items_is c.args.self.now.rows c.remove.new.rows long) (rw c.as_mut_slice-rows.ensures.value at c.remove.ensures.counted)
+
+pub returns-clause-told : goal.returns-clause-told
+returns-clause-told g c = rw c.as_mut_slice-rows.ensures.value at c.remove.ensures.told
