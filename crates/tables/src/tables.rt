@@ -8,7 +8,7 @@ use std::alloc::Global;
 use std::mem;
 
 // R are the rows of labels, S those of passages. The first six have an entry for each place, by its number; `order` has the
-// places by their ranks. What they hold before a store is made is nobody's affair.
+// places by their ranks. `marks` has a byte for each place, zero outside a search. A store may be made over them whatever they hold.
 #[derive(Drop)]
 pub struct Tables<R: Copy, S: Copy> {
     // Columns, and no vector of entries: the caller lends them one by one, and each may be longer than the store.
