@@ -6,7 +6,7 @@ ghost use Rattle.links.specs.Links.{Gained, Lost, Shut, enters};
 ghost use Rattle.links.specs.LinkTable.{held, places, capacity, SameSizes};
 ghost use Rattle.links.specs.LinksAt.{LinksOf, rest};
 
-use crate::row::{Heads, Link, LinkRow, Side};
+use crate::row::{Heads, Link, LinkRow, Side, Tally};
 use crate::slices;
 use crate::table::LinkTable;
 use crate::table::links_at::LinksAt;
@@ -33,6 +33,28 @@ impl<R: Copy> LinkTable<R> {
     {
         let LinkTable { rows, heads, .. } = self;
         (rows, heads)
+    }
+
+    // The rows, as the calls over lent slices read them.
+    pub fn rows(&self) -> &[LinkRow<R>]
+        ensures { result.now ≡ self.now.rows.items }
+    {
+        self.rows.as_slice()
+    }
+
+    // The heads of the threads.
+    pub fn heads(&self) -> &[Heads]
+        ensures { result.now ≡ self.now.heads.items }
+    {
+        self.heads.as_slice()
+    }
+
+    // How many rows are links, and the unused row on top.
+    pub fn tally(&self) -> Tally
+        ensures { result ≡ self.now.tally }
+    {
+        let LinkTable { tally, .. } = self;
+        *tally
     }
 
     // Takes every link out.

@@ -69,6 +69,27 @@ impl<R: Copy> Graph<R> {
         n <= places && m <= self.links.capacity()
     }
 
+    // The link table.
+    pub fn links(&self) -> &LinkTable<R>
+        ensures { result.now ≡ self.now.links }
+    {
+        &self.links
+    }
+
+    // The ranks, by place.
+    pub fn ranks(&self) -> &[Rank]
+        ensures { result.now ≡ ranks_of self.now }
+    {
+        self.ranks.as_slice()
+    }
+
+    // The places, by rank.
+    pub fn order(&self) -> &[PlaceNumber]
+        ensures { result.now ≡ order_of self.now }
+    {
+        self.order.as_slice()
+    }
+
     // How many places it has.
     pub fn places(&self) -> usize
         ensures { result ≡ size self.now }
