@@ -7,7 +7,6 @@ use common::{PlaceNumber, Rank};
 use links::LinkTable;
 
 mod calls;
-mod search;
 
 // For each place its rank and for each rank its place: every link leads from a lower rank to a higher.
 // That a place is below the size, and that marks are clean, are clauses and no types: a place number is a plain number,

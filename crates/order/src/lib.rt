@@ -1,4 +1,4 @@
-// The order of ranks: for each place its rank and for each rank its place, in tables that the caller hands over.
+// The order of ranks: for each place its rank and for each rank its place, in tables that the caller lends, or that a graph owns.
 #![tactic(auto)]
 
 ghost use Rattle.order.specs.Theorems.{OneOrder, Specimen, KeepsOrder, SamePaths};
@@ -6,10 +6,12 @@ ghost use Rattle.order.specs.Theorems.{OneOrder, Specimen, KeepsOrder, SamePaths
 mod graph;
 mod marks;
 mod ranks;
+mod search;
 
 pub use graph::Graph;
 pub use marks::{Marked, is_marked};
 pub use ranks::{first_ranks, place_with, rank_at};
+pub use search::admit;
 
 // The rule makes one order, and the one of the worked example.
 pub fn rule_stands<P>()

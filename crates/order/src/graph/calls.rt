@@ -12,8 +12,8 @@ ghost use Rattle.order.specs.Admit.{Admitted, Circular};
 ghost use Rattle.order.specs.Graph.{size, linked, ranks_of, order_of, place_room, link_room, RoomFor, SameSpace, SameRanks};
 
 use super::Graph;
-use crate::marks::Marked;
 use crate::ranks::{first_ranks, place_with, rank_at};
+use crate::search::admit;
 use common::{PlaceNumber, Rank, Refusal};
 use links::{Link, LinkTable, LinksAt};
 
@@ -190,12 +190,13 @@ impl<R: Copy> Graph<R> {
         ensures marks { marks.new ≡ marks.old }
         ensures answer { MatchResult result (λ _. Admitted (size self.old) (linked self.old) u.0 v.0 (ranks_of self.old) (ranks_of self.new) (order_of self.old) (order_of self.new)) (λ e. (e ≡ Circle) × Circular (linked self.old) u.0 v.0 (ranks_of self.old) (ranks_of self.new) (order_of self.old) (order_of self.new)) }
     {
-        if self.rank(u) < self.rank(v) {
-            return Ok(());
-        }
         let n = self.places;
-        let mut marked = Marked { bytes: marks, n };
-        self.reorder(&mut marked, u, v)
+        let ranks = self.ranks.as_mut_slice();
+        let order = self.order.as_mut_slice();
+        let rows = self.links.rows();
+        let heads = self.links.heads();
+        let tally = self.links.tally();
+        admit(ranks, order, rows, heads, tally, marks, n, u, v)
     }
 
     // Puts a link from u to v in, unless it closes a circle.
