@@ -4,3 +4,4 @@ pub mod Steps
 pub mod Grounds
 pub mod Ends
 pub mod Passing
+pub mod Lents

@@ -1,3 +1,4 @@
 pub mod Tables
 pub mod Joined
 pub mod Pending
+pub mod Lent

@@ -1,19 +1,19 @@
 // The label of one place.
 ghost use Rattle.std.specs.Prelude.{◌≡◌, ◌<◌, ◌≤◌, true, false, length, ◌≢◌};
 ghost use Rattle.paths.specs.Walk.{Put};
-ghost use Rattle.order.specs.Graph.{size, linked};
+ghost use Rattle.recompute.specs.Lent.{size, linked};
 ghost use Rattle.recompute.specs.Tables.{value_in, gathered};
 
+use crate::lent::LentGraph;
 use common::PlaceNumber;
 use kinds::LabelKind;
-use order::Graph;
 
 // The own label of p joined with what the links into p carry.
 // Slices beside the graph and no struct of them: it would carry a loan for each, and each function would have to say of each that it is the same.
 fn gather<K: LabelKind>(
     own: &[K::Row],
     labels: &[K::Row],
-    graph: &Graph<K::PassageRow>,
+    graph: &LentGraph<'_, K::PassageRow>,
     p: PlaceNumber,
 ) -> K
     requires sizes { (size graph.now ≤ length own.now) × (size graph.now ≤ length labels.now) }
@@ -32,7 +32,7 @@ fn gather<K: LabelKind>(
 pub(crate) fn relabel<K: LabelKind>(
     own: &[K::Row],
     labels: &mut [K::Row],
-    graph: &Graph<K::PassageRow>,
+    graph: &LentGraph<'_, K::PassageRow>,
     p: PlaceNumber,
 ) -> bool
     requires sizes { (size graph.now ≤ length own.now) × (size graph.now ≤ length labels.old) }

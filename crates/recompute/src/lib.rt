@@ -1,9 +1,12 @@
-// Recomputing the labels after an edit: one walk up the ranks.
+// Recomputing the labels after an edit: one walk up the ranks, over slices that the caller lends or over a graph.
 #![tactic(auto)]
 
 mod climb;
+mod graph;
 mod label;
+mod lent;
 mod marks;
 mod walk;
 
-pub use walk::recompute;
+pub use graph::recompute;
+pub use walk::recompute_lent;

@@ -5,14 +5,15 @@ ghost use Rattle.links.specs.declared.row.Link.{Link};
 ghost use Rattle.links.specs.Table.{Leads};
 ghost use Rattle.order.specs.Loans.{SameLoan};
 ghost use Rattle.order.specs.Tables.{rank_in};
-ghost use Rattle.order.specs.Graph.{size, linked, ranks_of};
+ghost use Rattle.recompute.specs.Lent.{size, linked, ranks_of};
 
+use crate::lent::LentGraph;
 use common::{PlaceNumber, Rank};
-use order::{Graph, Marked};
+use order::Marked;
 
 // Marks the places that links lead to from p; answers the highest of their ranks and `last`.
 pub(crate) fn mark_targets<R: Copy>(
-    graph: &Graph<R>,
+    graph: &LentGraph<'_, R>,
     marks: &mut Marked<'_>,
     p: PlaceNumber,
     last: Rank,

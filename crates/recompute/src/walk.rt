@@ -1,24 +1,28 @@
 // One walk up the ranks.
 ghost use Rattle.std.specs.Prelude.{◌≡◌, ℕ, ◌+◌, ◌<◌, ◌≤◌, List, length, drop};
 ghost use Rattle.order.specs.Loans.{SameLoan};
+ghost use Rattle.links.specs.Table.{Kept, links as links_in};
 ghost use Rattle.order.specs.Marks.{Clean, Beyond};
-ghost use Rattle.order.specs.Graph.{size, linked, ranks_of};
+ghost use Rattle.order.specs.Tables.{Ordered};
+ghost use Rattle.recompute.specs.Lent.{size, linked, ranks_of};
 ghost use Rattle.recompute.specs.Tables.{Recomputes};
 ghost use Rattle.recompute.specs.Pending.{Climbed};
 
 use super::climb::Climb;
 use super::label::relabel;
 use super::marks::mark_targets;
+use crate::lent::LentGraph;
 use common::{PlaceNumber, Rank};
 use kinds::LabelKind;
-use order::{Graph, Marked};
+use links::{Heads, LinkRow, Tally};
+use order::Marked;
 
 // The place p, of the rank r: it is reported and recomputed if it is marked, and if its label changed the places that it links to are marked.
 // Slices beside the graph and no struct of them: it would carry a loan for each, and each function would have to say of each that it is the same.
 fn step<K: LabelKind>(
     own: &[K::Row],
     labels: &mut [K::Row],
-    graph: &Graph<K::PassageRow>,
+    graph: &LentGraph<'_, K::PassageRow>,
     marks: &mut Marked<'_>,
     r: Rank,
     list: &mut [PlaceNumber],
@@ -55,7 +59,7 @@ fn step<K: LabelKind>(
 fn walk<K: LabelKind>(
     own: &[K::Row],
     labels: &mut [K::Row],
-    graph: &Graph<K::PassageRow>,
+    graph: &LentGraph<'_, K::PassageRow>,
     marks: &mut Marked<'_>,
     e: PlaceNumber,
     list: &mut [PlaceNumber],
@@ -87,26 +91,38 @@ fn walk<K: LabelKind>(
 }
 
 // Recomputes the labels after an edit at e, and writes the reported places to the list, in rising rank.
-// Answers how many places it reported, and how many changed.
-pub fn recompute<K: LabelKind>(
+// Answers how many places it reported, and how many changed. The first n places are those of the tables.
+pub fn recompute_lent<K: LabelKind>(
     own: &[K::Row],
     labels: &mut [K::Row],
-    graph: &Graph<K::PassageRow>,
+    rank_of: &[Rank],
+    place_at: &[PlaceNumber],
+    rows: &[LinkRow<K::PassageRow>],
+    heads: &[Heads],
+    tally: Tally,
     marks: &mut [u8],
+    n: usize,
     e: PlaceNumber,
     list: &mut [PlaceNumber],
 ) -> (usize, usize)
-    requires sizes { (size graph.now ≤ length own.now) × (size graph.now ≤ length labels.old) × (size graph.now ≤ length marks.old) × (size graph.now ≤ length list.old) }
-    requires place { e.0 < size graph.now }
-    requires clean { Clean (size graph.now) marks.old }
-    ensures recomputes { Recomputes K.LabelKind.means (size graph.now) own.now (linked graph.now) (ranks_of graph.now) e.0 labels.old labels.new list.new result }
+    requires kept { Kept rows.now heads.now tally }
+    requires ordered { Ordered n rank_of.now place_at.now (links_in rows.now) }
+    requires sizes { (n ≤ length own.now) × ((n ≤ length labels.old) × ((n ≤ length heads.now) × ((n ≤ length marks.old) × (n ≤ length list.old)))) }
+    requires place { e.0 < n }
+    requires clean { Clean n marks.old }
+    ensures recomputes { Recomputes K.LabelKind.means n own.now (links_in rows.now) rank_of.now e.0 labels.old labels.new list.new result }
     ensures marks { marks.new ≡ marks.old }
     ensures rest { drop result.0 list.new ≡ drop result.0 list.old }
 {
-    let mut marked = Marked {
-        bytes: marks,
-        n: graph.places(),
+    let graph = LentGraph {
+        ranks: rank_of,
+        order: place_at,
+        rows,
+        heads,
+        tally,
+        places: n,
     };
-    let climb = walk::<K>(own, labels, graph, &mut marked, e, list);
+    let mut marked = Marked { bytes: marks, n };
+    let climb = walk::<K>(own, labels, &graph, &mut marked, e, list);
     (climb.reported, climb.changed)
 }

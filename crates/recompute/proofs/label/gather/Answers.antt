@@ -3,8 +3,8 @@ use Rattle.paths.specs.Kind.{Within}
 use Rattle.paths.proofs.Within.{within_trans, within_join, within_left, within_right}
 use Rattle.links.specs.declared.row.Side.TheVariants.{Entering}
 use Rattle.links.specs.LinksAt.{LinksOf, rest}
-use Rattle.order.specs.Graph.{size, linked}
-use Rattle.order.proofs.Graphs.{linked_inside}
+use Rattle.recompute.specs.Lent.{size, linked}
+use Rattle.recompute.proofs.Lents.{linked_inside}
 use Rattle.recompute.specs.Tables.{value_in}
 use Rattle.recompute.specs.Joined.{brought}
 use Rattle.recompute.proofs.Passing.{passed_none, passed_here, passed_on, passed_all}

@@ -1,7 +1,7 @@
 use Rattle.paths.specs.Kind.{Within}
 use Rattle.links.specs.declared.row.Side.TheVariants.{Entering}
 use Rattle.links.specs.LinksAt.{rest}
-use Rattle.order.specs.Graph.{size, linked}
+use Rattle.recompute.specs.Lent.{size, linked}
 use Rattle.recompute.specs.Joined.{brought, Takes}
 use Rattle.recompute.proofs.Passing.{Passed}
 use Rattle.recompute.proofs.label.gather.Given as goal

@@ -1,7 +1,7 @@
 use Rattle.std.proofs.Common.{◌≡◌, ℕ, true, set, sym, refl, ap, ◌∙◌, subst, arith}
 use borrow.Author.Tests.{both_ways}
 use Rattle.paths.specs.Walk.{Put}
-use Rattle.order.specs.Graph.{size, linked}
+use Rattle.recompute.specs.Lent.{size, linked}
 use Rattle.recompute.specs.Tables.{value_in, gathered}
 use Rattle.recompute.proofs.Rows.{value_read, put_set}
 use Rattle.recompute.proofs.label.relabel.Goals as goal

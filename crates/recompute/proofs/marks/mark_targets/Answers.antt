@@ -5,8 +5,8 @@ use Rattle.links.specs.declared.row.Side.TheVariants.{Leaving}
 use Rattle.links.specs.Table.{Leads}
 use Rattle.links.specs.LinksAt.{LinksOf, rest}
 use Rattle.order.specs.Tables.{rank_in}
-use Rattle.order.specs.Graph.{size, linked, ranks_of}
-use Rattle.order.proofs.Graphs.{ranked_long, linked_inside}
+use Rattle.recompute.specs.Lent.{size, linked, ranks_of}
+use Rattle.recompute.proofs.Lents.{linked_inside}
 use Rattle.recompute.proofs.Passing.{passed_none, passed_here, passed_on}
 use Rattle.recompute.proofs.marks.mark_targets.Given as Given
 use Rattle.recompute.proofs.marks.mark_targets.Goals as goal
@@ -31,10 +31,7 @@ pub set-requires : goal.set-requires
 set-requires g c = let h = here g (goal.at.set-requires g c).In-Some in omega (arith, c.loop-l.invariant.6, c.requires.places)
 
 pub rank-requires : goal.rank-requires
-rank-requires g c =
-    let G = c.args.graph.now in
-    let low = here g (goal.at.rank-requires g c).In-Some in
-    let long = ranked_long G in omega (arith, low, long)
+rank-requires g c = here g (goal.at.rank-requires g c).In-Some
 
 pub loop-l-preserved : goal.loop-l-preserved
 loop-l-preserved g c =

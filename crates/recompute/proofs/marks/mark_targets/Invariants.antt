@@ -3,7 +3,7 @@ use Rattle.links.specs.declared.row.Side.TheVariants.{Leaving}
 use Rattle.links.specs.Table.{Leads}
 use Rattle.links.specs.LinksAt.{rest}
 use Rattle.order.specs.Tables.{rank_in}
-use Rattle.order.specs.Graph.{linked, ranks_of}
+use Rattle.recompute.specs.Lent.{linked, ranks_of}
 use Rattle.recompute.proofs.Passing.{Passed}
 use Rattle.recompute.proofs.marks.mark_targets.Given as goal
 

@@ -1,9 +1,9 @@
 use Rattle.std.proofs.Common.{◌≡◌, ℕ, ◌<◌, get_or, set, sym, ap, ◌∙◌, ⊎_elim, arith}
 use Rattle.std.proofs.lemmas.Bool.{eqb-true, eqb-false}
 use Rattle.order.specs.Tables.{rank_in, is_set}
-use Rattle.order.specs.Graph.{size, linked, ranks_of, order_of}
+use Rattle.recompute.specs.Lent.{size, linked, ranks_of, order_of}
 use Rattle.order.proofs.Bytes.{marked_is}
-use Rattle.order.proofs.Graphs.{sound_of, linked_inside}
+use Rattle.recompute.proofs.Lents.{sound_of, linked_inside}
 use Rattle.order.proofs.Ways.{sound_rank}
 use Rattle.recompute.proofs.Rows.{one_told}
 use Rattle.recompute.proofs.Grounds.{place_rank, place_only, rising, within}
@@ -25,7 +25,7 @@ only g c q b e =
 
 mark : (g : Given.Over) (c : After-has g) → is_set c.args.marks.now.bytes.now c.place-p.result.0 ≡ c.has.result
 mark g c =
-    sym (marked_is c.args.marks.now.n c.args.marks.now.bytes.now c.place-p.result.0 (let l = (c.place-p.ensures.inside c.requires.rank) in omega (arith, c.requires.places))) ∙ sym c.has.ensures
+    sym (marked_is c.args.marks.now.n c.args.marks.now.bytes.now c.place-p.result.0 (let l = (c.place-p.ensures.inside) in omega (arith, c.requires.places))) ∙ sym c.has.ensures
 
 pub returns-then-not-has-clause-climbed : goal.returns-then-not-has-clause-climbed
 returns-then-not-has-clause-climbed g c =
@@ -36,7 +36,7 @@ returns-then-not-has-clause-climbed g c =
     let p = c.place-p.result.0 in
     let not_marked : get_or c.args.marks.now.bytes.now p 0 ≡ 1 → ⊥ = eqb-false (get_or c.args.marks.now.bytes.now p 0) 1 (mark g a ∙ c.if-not-has.true) in
     λ e before h w. passed m g.met.K.LabelKind.lawful.laws (size G) c.args.own.now (ranks_of G) (linked G) e before (rising m (size G) (ranks_of G) (linked G) s.rising) (within m (size G) (ranks_of G) (linked G) s.inside)
-    c.args.r.0 p (c.place-p.ensures.inside c.requires.rank) (at g a) (only g a) c.args.climb c.args.labels.now c.args.marks.now.bytes.now c.args.list.now not_marked w
+    c.args.r.0 p (c.place-p.ensures.inside) (at g a) (only g a) c.args.climb c.args.labels.now c.args.marks.now.bytes.now c.args.list.now not_marked w
 
 pub returns-then-not-relabel-clause-climbed : goal.returns-then-not-relabel-clause-climbed
 returns-then-not-relabel-clause-climbed g c =
@@ -49,7 +49,7 @@ returns-then-not-relabel-clause-climbed g c =
     let list = c.args.list.now in
     let marked : get_or c.args.marks.now.bytes.now p 0 ≡ 1 = eqb-true (get_or c.args.marks.now.bytes.now p 0) 1 (mark g a ∙ c.if-not-has.false) in
     λ e before h w. stayed m g.met.K.LabelKind.lawful.laws (size G) c.args.own.now (ranks_of G) (linked G) e before (rising m (size G) (ranks_of G) (linked G) s.rising) (within m (size G) (ranks_of G) (linked G) s.inside)
-    c.args.r.0 p (c.place-p.ensures.inside c.requires.rank) (at g a) (only g a) climb c.args.labels.now c.relabel.new.labels c.args.marks.now.bytes.now list (set list climb.reported c.place-p.result) marked
+    c.args.r.0 p (c.place-p.ensures.inside) (at g a) (only g a) climb c.args.labels.now c.relabel.new.labels c.args.marks.now.bytes.now list (set list climb.reported c.place-p.result) marked
     c.relabel.ensures.put (one_told list climb.reported c.place-p.result c.requires.room.0) w (c.relabel.ensures.kept c.if-not-relabel.true)
 
 pub returns-clause-climbed : goal.returns-clause-climbed
@@ -64,7 +64,7 @@ returns-clause-climbed g c =
     let t = c.mark_targets-last.ensures in
     let marked : get_or c.args.marks.now.bytes.now p 0 ≡ 1 = eqb-true (get_or c.args.marks.now.bytes.now p 0) 1 (mark g a ∙ c.if-not-has.false) in
     λ e before h w. turned m g.met.K.LabelKind.lawful.laws (size G) c.args.own.now (ranks_of G) (linked G) e before (rising m (size G) (ranks_of G) (linked G) s.rising) (within m (size G) (ranks_of G) (linked G) s.inside)
-    c.args.r.0 p (c.place-p.ensures.inside c.requires.rank) (at g a) (only g a) climb c.args.labels.now c.relabel.new.labels c.args.marks.now.bytes.now list (set list climb.reported c.place-p.result) marked
+    c.args.r.0 p (c.place-p.ensures.inside) (at g a) (only g a) climb c.args.labels.now c.relabel.new.labels c.args.marks.now.bytes.now list (set list climb.reported c.place-p.result) marked
     c.relabel.ensures.put (one_told list climb.reported c.place-p.result c.requires.room.0) w
     c.mark_targets-last.new.marks.bytes.now c.mark_targets-last.result (c.relabel.ensures.changed c.if-not-relabel.false) t.all t.only t.rises
 

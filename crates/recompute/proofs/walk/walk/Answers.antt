@@ -1,6 +1,6 @@
 use Rattle.std.proofs.Common.{◌≡◌, ℕ, ◌+◌, ◌-◌, ◌≤◌, length, set, sym, ◌∙◌, subst, arith}
-use Rattle.order.specs.Graph.{size, linked, ranks_of, order_of}
-use Rattle.order.proofs.Graphs.{sound_of}
+use Rattle.recompute.specs.Lent.{size, linked, ranks_of, order_of}
+use Rattle.recompute.proofs.Lents.{sound_of}
 use Rattle.recompute.specs.declared.climb.Climb.{Climb}
 use Rattle.recompute.specs.Pending.{Climbed}
 use Rattle.recompute.proofs.Rows.{drop_further}

@@ -1,6 +1,6 @@
 use Rattle.std.proofs.Common.{◌≡◌, ℕ, ◌-◌, ◌<◌, ◌≤◌, List, drop}
 use Rattle.order.specs.Marks.{Beyond}
-use Rattle.order.specs.Graph.{size, linked, ranks_of}
+use Rattle.recompute.specs.Lent.{size, linked, ranks_of}
 use Rattle.recompute.specs.Pending.{Climbed}
 use Rattle.recompute.proofs.walk.walk.Given as goal
 
