@@ -4,8 +4,8 @@ use Rattle.std.specs.List.{ContainsAt as Has}
 use Rattle.links.specs.declared.row.Link.{Link}
 use Rattle.links.specs.declared.row.Side.{Side}
 use Rattle.links.specs.LinksAt.{LinksOf}
-use Rattle.links.proofs.Ties.{leads_of}
 use Rattle.order.specs.Tables.{Sound}
+use Rattle.order.proofs.Graphs.{sound_inside, sound_links}
 use Rattle.order.proofs.Props.{opened}
 use Rattle.recompute.specs.declared.lent.LentGraph.{LentGraph}
 use Rattle.recompute.specs.Lent.{size, linked, ranks_of, order_of}
@@ -20,7 +20,7 @@ module _ {R : Type 0} (g : LentGraph R) where
 
   -- links lead between places of the graph
   pub linked_inside : (l : Link R) → Has (linked g) l → (l.source.0 < size g) × (l.target.0 < size g)
-  linked_inside l h = sound_of.inside _ _ _ (leads_of (λ (t : R). t) (linked g) l h)
+  linked_inside = sound_inside (size g) (ranks_of g) (order_of g) (linked g) sound_of
 
   pub links_of_lent : (side : Side) (n p : ℕ) (ys : List (Link R)) → LinksOf side (linked g) n p ys → LinksOf side (linked g) (size g) p ys
-  links_of_lent side n p ys e = record { members = e.members; rising = e.rising; inside = λ m h. linked_inside m ((e.members m).0 h).0 }
+  links_of_lent = sound_links (size g) (ranks_of g) (order_of g) (linked g) sound_of
