@@ -2,7 +2,7 @@
 #![tactic(auto)]
 
 ghost use Rattle.std.specs.Prelude.{◌<◌};
-ghost use Rattle.order.specs.Graph.{size};
+ghost use Rattle.tables.specs.Graph.{size};
 ghost use Rattle.discarding.specs.Discarded.{Discarded};
 
 use common::PlaceNumber;
@@ -10,13 +10,13 @@ use kinds::LabelKind;
 use tables::{Columns, write};
 
 // Takes every link into p away, empties its own label and its label, and makes it absent.
-pub fn discard_in<K: LabelKind>(t: &mut Columns<K::Row, K::PassageRow>, p: PlaceNumber)
-    requires { p.0 < size t.old.graph }
+pub fn discard_in<K: LabelKind>(t: &mut Columns<'_, K::Row, K::PassageRow>, p: PlaceNumber)
+    requires { p.0 < size t.old }
     ensures { Discarded K.means p.0 t.old t.new }
 {
     let row = K::empty().to_row();
-    t.graph.unlink_entering(p);
-    write(&mut t.own, p, row);
-    write(&mut t.labels, p, row);
-    write(&mut t.present, p, false);
+    t.unlink_entering(p);
+    write(&mut t.tables.own, p, row);
+    write(&mut t.tables.labels, p, row);
+    write(&mut t.tables.present, p, false);
 }

@@ -4,34 +4,40 @@
 ghost use Rattle.std.specs.Prelude.{◌≡◌, ◌<◌, ◌≤◌, length, drop, vec_len, vec_items, MatchResult};
 ghost use Rattle.links.specs.Table.{Leads, link as link_of};
 ghost use Rattle.common.specs.declared.refusal.Refusal.TheVariants.{Circle};
-ghost use Rattle.order.specs.Graph.{size, linked, ranks_of, link_room};
+ghost use Rattle.tables.specs.Graph.{size, linked, ranks_of, link_room, SameGraph};
 ghost use Rattle.recompute.specs.Tables.{Recomputes};
 ghost use Rattle.editing.specs.Edited.{Owned, Unlinked, Linked, Circles, Steady};
 
 use common::{PlaceNumber, Refusal};
 use kinds::LabelKind;
-use recompute::recompute;
+use recompute::recompute_lent;
 use tables::{Columns, write};
 
 // Recomputes the labels after an edit at e.
 fn recompute_from<K: LabelKind>(
-    t: &mut Columns<K::Row, K::PassageRow>,
+    t: &mut Columns<'_, K::Row, K::PassageRow>,
     e: PlaceNumber,
     list: &mut [PlaceNumber],
 ) -> (usize, usize)
-    requires place { e.0 < size t.old.graph }
-    requires list { size t.old.graph ≤ length list.old }
-    ensures recomputes { Recomputes K.means (size t.old.graph) t.old.own.items (linked t.old.graph) (ranks_of t.old.graph) e.0 t.old.labels.items t.new.labels.items list.new result }
-    ensures same { (t.new.present ≡ t.old.present) × (t.new.own ≡ t.old.own) × (t.new.graph ≡ t.old.graph) }
-    ensures long { vec_len t.new.labels ≡ vec_len t.old.labels }
-    ensures marks { vec_items t.new.marks ≡ vec_items t.old.marks }
+    requires place { e.0 < size t.old }
+    requires list { size t.old ≤ length list.old }
+    ensures recomputes { Recomputes K.means (size t.old) t.old.tables.now.own.items (linked t.old) (ranks_of t.old) e.0 t.old.tables.now.labels.items t.new.tables.now.labels.items list.new result }
+    ensures same { (t.new.tables.now.present ≡ t.old.tables.now.present) × (t.new.tables.now.own ≡ t.old.tables.now.own) × SameGraph t.old t.new }
+    ensures long { vec_len t.new.tables.now.labels ≡ vec_len t.old.tables.now.labels }
+    ensures marks { vec_items t.new.tables.now.marks ≡ vec_items t.old.tables.now.marks }
     ensures rest { drop result.0 list.new ≡ drop result.0 list.old }
 {
-    recompute::<K>(
-        t.own.as_slice(),
-        t.labels.as_mut_slice(),
-        &t.graph,
-        t.marks.as_mut_slice(),
+    let tables = &mut *t.tables;
+    recompute_lent::<K>(
+        tables.own.as_slice(),
+        tables.labels.as_mut_slice(),
+        tables.ranks.as_slice(),
+        tables.order.as_slice(),
+        tables.links.as_slice(),
+        tables.heads.as_slice(),
+        t.tally,
+        tables.marks.as_mut_slice(),
+        t.places,
         e,
         list,
     )
@@ -39,52 +45,52 @@ fn recompute_from<K: LabelKind>(
 
 // Replaces the own label of p.
 pub fn own_in<K: LabelKind>(
-    t: &mut Columns<K::Row, K::PassageRow>,
+    t: &mut Columns<'_, K::Row, K::PassageRow>,
     p: PlaceNumber,
     label: K,
     list: &mut [PlaceNumber],
 ) -> (usize, usize)
-    requires place { p.0 < size t.old.graph }
-    requires list { size t.old.graph ≤ length list.old }
+    requires place { p.0 < size t.old }
+    requires list { size t.old ≤ length list.old }
     ensures owned { Owned K.means p.0 (K.means.value label) t.old t.new list.new result }
     ensures rest { drop result.0 list.new ≡ drop result.0 list.old }
 {
-    write(&mut t.own, p, label.to_row());
+    write(&mut t.tables.own, p, label.to_row());
     recompute_from::<K>(t, p, list)
 }
 
 // Takes the link from u to v out, if there is one.
 pub fn unlink_in<K: LabelKind>(
-    t: &mut Columns<K::Row, K::PassageRow>,
+    t: &mut Columns<'_, K::Row, K::PassageRow>,
     u: PlaceNumber,
     v: PlaceNumber,
     list: &mut [PlaceNumber],
 ) -> (usize, usize)
-    requires places { (u.0 < size t.old.graph) × (v.0 < size t.old.graph) }
-    requires list { size t.old.graph ≤ length list.old }
+    requires places { (u.0 < size t.old) × (v.0 < size t.old) }
+    requires list { size t.old ≤ length list.old }
     ensures unlinked { Unlinked K.means u.0 v.0 t.old t.new list.new result }
     ensures rest { drop result.0 list.new ≡ drop result.0 list.old }
 {
-    t.graph.unlink(u, v);
+    t.unlink(u, v);
     recompute_from::<K>(t, v, list)
 }
 
 // Puts a link from u to v in, unless it closes a circle.
 pub fn link_in<K: LabelKind>(
-    t: &mut Columns<K::Row, K::PassageRow>,
+    t: &mut Columns<'_, K::Row, K::PassageRow>,
     u: PlaceNumber,
     v: PlaceNumber,
     row: K::PassageRow,
     list: &mut [PlaceNumber],
 ) -> Result<(usize, usize), Refusal>
-    requires places { (u.0 < size t.old.graph) × (v.0 < size t.old.graph) }
-    requires list { size t.old.graph ≤ length list.old }
-    requires room { length (linked t.old.graph) < link_room t.old.graph }
-    requires fresh { Leads (linked t.old.graph) u.0 v.0 → ⊥ }
+    requires places { (u.0 < size t.old) × (v.0 < size t.old) }
+    requires list { size t.old ≤ length list.old }
+    requires room { length (linked t.old) < link_room t.old }
+    requires fresh { Leads (linked t.old) u.0 v.0 → ⊥ }
     ensures steady { Steady t.old t.new }
     ensures told { MatchResult result (λ c. Linked K.means (link_of u v row) t.old t.new list.new c) (λ e. (e ≡ Circle) × Circles u.0 v.0 t.old t.new) }
     ensures rest { MatchResult result (λ c. drop c.0 list.new ≡ drop c.0 list.old) (λ _. list.new ≡ list.old) }
 {
-    t.graph.link(t.marks.as_mut_slice(), u, v, row)?;
+    t.link(u, v, row)?;
     Ok(recompute_from::<K>(t, v, list))
 }

@@ -39,4 +39,4 @@ pub record EditAccepts {K P R S : Type 0} (means : Meaning K P R S) (s : State m
 -- what every call leaves: how the making went, and the mark bytes
 pub record Keeps {K P R S : Type 0} {G : Ghosts K P R S} {E : Eqs K} (s t : Store K P R S G E) : Type 0 where
   pub made : t.made ≡ s.made
-  pub marks : vec_items t.tables.columns.marks ≡ vec_items s.tables.columns.marks
+  pub marks : vec_items t.columns.tables.now.marks ≡ vec_items s.columns.tables.now.marks

@@ -17,14 +17,14 @@ module _ {K P R S : Type 0} {G : Ghosts K P R S} {E : Eqs K} (means : Meaning K 
   pub record Made (s : Store K P R S G E) : Type 0 where
     pub passed : Passed (making old n m)
     pub new : New means.kind n m (view means s)
-    pub clean : Clean n (vec_items s.tables.columns.marks)
-    pub past : drop n (vec_items s.tables.columns.marks) ≡ drop n (vec_items old.marks)
+    pub clean : Clean n (vec_items s.columns.tables.now.marks)
+    pub past : drop n (vec_items s.columns.tables.now.marks) ≡ drop n (vec_items old.marks)
 
   -- making was refused: s has no places, and the lent tables are as they were
   pub record Unmade (s : Store K P R S G E) (e : Refusal) : Type 0 where
     pub refused : Refused (making old n m) e
     pub new : New means.kind 0 0 (view means s)
-    pub same : s.tables.lender.now ≡ old
+    pub same : s.columns.tables.now ≡ old
 
   abbrev pub Makes : Store K P R S G E → Type 0
   Makes s = MatchResult s.made (λ _. Made s) (Unmade s)

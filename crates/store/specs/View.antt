@@ -16,4 +16,4 @@ permit_in (Some g) = out g.place.0 g.day.number
 
 module _ {K P R S : Type 0} (m : Meaning K P R S) where
   abbrev pub view : {G : Ghosts K P R S} {E : Eqs K} → Store K P R S G E → State m.Value P
-  view s = state_of m s.n s.m (permit_in s.permit) s.tables.columns
+  view s = state_of m s.n s.m (permit_in s.permit) s.columns

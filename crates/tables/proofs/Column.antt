@@ -1,14 +1,16 @@
 -- What a table says of its first places, as it is read, written and cleared. Assumes nothing.
 use Rattle.std.proofs.Common.{◌≡◌, ℕ, zero, suc, ◌<◌, ◌≤◌, List, map, length, get_or, take, set, replicate, sym, refl, ap, ◌∙◌, subst, ⊎_elim, arith}
 use lib.Seq.{take-set-lt}
-use Rattle.std.proofs.lemmas.List.{length-map, length-take, get_or-map, get_or-take, get_or_default, get_or-set_same, get_or-set_other, map-set, same_lists}
+use Rattle.std.proofs.lemmas.List.{length-map, length-take, get_or-map, get_or-take, get_or_default, get_or-replicate, get_or-set_same, get_or-set_other, map-set, same_lists}
 use Rattle.std.proofs.lemmas.Bool.{cases_eq}
 use Rattle.common.specs.declared.number.PlaceNumber.{PlaceNumber}
 use Rattle.paths.specs.Calls.{put}
 use Rattle.paths.specs.Order.{upto}
 use Rattle.paths.proofs.Calls.{put_other, put_there}
 use Rattle.paths.proofs.Permutes.{upto_length, first_ranked}
+use Rattle.order.specs.Marks.{Clean}
 use Rattle.order.specs.Tables.{place_in, order_in}
+use Rattle.tables.specs.Fill.{Filled}
 use Rattle.tables.specs.Columns.{column}
 
 module _ {X Y : Type 0} (f : X → Y) (d : Y) (n : ℕ) where
@@ -39,6 +41,10 @@ module _ {X Y : Type 0} (f : X → Y) (d : Y) (n : ℕ) where
   -- rows that all say d
   pub column_flat : (xs : List X) (x : X) → take n xs ≡ replicate n x → f x ≡ d → (p : ℕ) → column f d n xs p ≡ d
   column_flat xs x e h p = ap (λ (ys : List X). get_or (map f ys) p d) e ∙ flat n x h p
+
+-- zeros in front
+pub filled_clean : (n : ℕ) (old new : List ℕ) → Filled n 0 old new → Clean n new
+filled_clean n old new f k l = sym (get_or-take n new k 0 l) ∙ ap (λ (ys : List ℕ). get_or ys k 0) f.front ∙ get_or-replicate n k 0 0 l
 
 -- places that stand at their own numbers
 pub first_order : (n : ℕ) (places : List PlaceNumber) → n ≤ length places → ((r : ℕ) → r < n → place_in places r ≡ r) → order_in n places ≡ upto n

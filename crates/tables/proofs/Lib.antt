@@ -1,2 +1,4 @@
 pub mod Column
+pub mod Graphs
+pub mod Lends
 pub mod Views

@@ -1,6 +1,6 @@
 pub mod Room
 pub mod Fill
 pub mod Columns
-pub mod Lent
+pub mod Graph
 pub mod Making
 pub mod View

@@ -1,7 +1,5 @@
--- The sizes of a store's tables, and of its columns. Assumes nothing.
+-- The sizes of a store's tables. Assumes nothing.
 use Rattle.std.specs.Prelude.{ℕ, ◌≤◌, vec_len}
-use Rattle.order.specs.Graph.{RoomFor}
-use Rattle.tables.specs.declared.columns.Columns.{Columns}
 use Rattle.tables.specs.declared.tables.Tables.{Tables}
 
 -- a store may have 1 to 4096 places and 1 to 16384 links
@@ -13,7 +11,3 @@ abbrev pub Room : {R S : Type 0} → Tables R S → ℕ → ℕ → Type 0
 Room t n m =
     (((n ≤ vec_len t.present) × (n ≤ vec_len t.marks)) × ((n ≤ vec_len t.own) × (n ≤ vec_len t.labels))) ×
     (((n ≤ vec_len t.ranks) × (n ≤ vec_len t.order)) × ((n ≤ vec_len t.heads) × (m ≤ vec_len t.links)))
-
--- the same of the columns, whose graph has four of the tables
-abbrev pub ColumnRoom : {R S : Type 0} → Columns R S → ℕ → ℕ → Type 0
-ColumnRoom c n m = (((n ≤ vec_len c.present) × (n ≤ vec_len c.marks)) × ((n ≤ vec_len c.own) × (n ≤ vec_len c.labels))) × RoomFor c.graph n m

@@ -5,11 +5,11 @@ use Rattle.kinds.specs.Meanings.{Meaning}
 use Rattle.links.specs.declared.row.Link.{Link as Row}
 use Rattle.links.specs.Theory.{arrows}
 use Rattle.order.specs.Tables.{order_in}
-use Rattle.order.specs.Graph.{linked, order_of}
 use Rattle.law.specs.Calls.{Permit}
 use Rattle.law.specs.State.{State}
 use Rattle.tables.specs.declared.columns.Columns.{Columns}
 use Rattle.tables.specs.Columns.{present_in, values_in}
+use Rattle.tables.specs.Graph.{linked, order_of}
 
 module _ {K P R S : Type 0} (m : Meaning K P R S) where
   -- the links of the table; a store without places has none
@@ -19,13 +19,13 @@ module _ {K P R S : Type 0} (m : Meaning K P R S) where
   abbrev pub ledger_of : ℕ → Columns R S → Ledger m.Value P
   ledger_of n t =
       record {
-        present = present_in n (vec_items t.present);
-        own = values_in m n (vec_items t.own);
-        links = links_of n (linked t.graph);
+        present = present_in n (vec_items t.tables.now.present);
+        own = values_in m n (vec_items t.tables.now.own);
+        links = links_of n (linked t);
       }
 
   abbrev pub labels_of : ℕ → Columns R S → ℕ → m.Value
-  labels_of n t = values_in m n (vec_items t.labels)
+  labels_of n t = values_in m n (vec_items t.tables.now.labels)
 
   -- a store of n places for limit links over these columns, with this permit out
   abbrev pub state_of : ℕ → ℕ → Permit → Columns R S → State m.Value P
@@ -35,6 +35,6 @@ module _ {K P R S : Type 0} (m : Meaning K P R S) where
         limit = limit;
         ledger = ledger_of n t;
         label = labels_of n t;
-        order = order_in n (order_of t.graph);
+        order = order_in n (order_of t);
         permit = permit;
       }

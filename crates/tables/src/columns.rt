@@ -1,20 +1,23 @@
-// The columns of a store, in the memory of the tables that the caller lends.
-ghost use Rattle.std.specs.Prelude.{◌≤◌, vec_len};
-ghost use Rattle.order.specs.Graph.{size};
+// The columns of a store, where they lie in the tables that the caller lends.
+ghost use Rattle.std.specs.Prelude.{◌<◌, ◌≤◌, vec_len};
+ghost use Rattle.links.specs.Table.{Kept, links as links_in};
 ghost use Rattle.order.specs.Marks.{Clean};
+ghost use Rattle.order.specs.Tables.{Ordered};
 
-use order::Graph;
+use super::tables::Tables;
+use links::Tally;
 
-// R are the rows of labels, S those of passages. Each of the vectors has an entry for each place of the graph, by its number.
-// `marks` has a byte for each place, zero outside a search.
+// The entries of the places, which come first in the lent tables, and the links between these places. `marks` has a byte for each place, zero outside a search.
+// Where there are no places, the tables may hold anything.
 #[derive(Drop)]
-pub struct Columns<R: Copy, S: Copy> {
-    pub present: Vec<bool>,
-    pub own: Vec<R>,
-    pub labels: Vec<R>,
-    pub graph: Graph<S>,
-    pub marks: Vec<u8>,
-    ghost flags: { (size graph ≤ vec_len present) × (size graph ≤ vec_len marks) },
-    ghost rows: { (size graph ≤ vec_len own) × (size graph ≤ vec_len labels) },
-    ghost clean: { Clean (size graph) marks.items },
+pub struct Columns<'a, R: Copy, S: Copy> {
+    pub tables: &'a mut Tables<R, S>,
+    pub tally: Tally,
+    pub places: usize,
+    ghost flags: { (places ≤ vec_len tables.now.present) × (places ≤ vec_len tables.now.marks) },
+    ghost rows: { (places ≤ vec_len tables.now.own) × (places ≤ vec_len tables.now.labels) },
+    ghost wide: { places ≤ vec_len tables.now.heads },
+    ghost kept: { (0 < places → Kept tables.now.links.items tables.now.heads.items tally) },
+    ghost ordered: { (0 < places → Ordered places tables.now.ranks.items tables.now.order.items (links_in tables.now.links.items)) },
+    ghost clean: { Clean places tables.now.marks.items },
 }

@@ -1,6 +1,6 @@
 // Entries of the columns of places.
 ghost use Rattle.std.specs.Prelude.{◌≡◌, ◌<◌, true, length, vec_len, slice_index_or, slice_set};
-ghost use Rattle.order.specs.Graph.{size};
+ghost use Rattle.tables.specs.Graph.{size, SameGraph};
 
 use super::columns::Columns;
 use common::PlaceNumber;
@@ -23,14 +23,15 @@ pub fn write<X: Copy>(table: &mut Vec<X>, p: PlaceNumber, x: X)
     table[p.index()] = x;
 }
 
-impl<R: Copy, S: Copy> Columns<R, S> {
+impl<R: Copy, S: Copy> Columns<'_, R, S> {
     // Makes p present.
     pub fn bring(&mut self, p: PlaceNumber)
-        requires { p.0 < size self.old.graph }
-        ensures entry { self.new.present.items ≡ slice_set self.old.present.items p.0 true }
-        ensures long { vec_len self.new.present ≡ vec_len self.old.present }
-        ensures rest { (self.new.own ≡ self.old.own) × (self.new.labels ≡ self.old.labels) × (self.new.graph ≡ self.old.graph) × (self.new.marks ≡ self.old.marks) }
+        requires { p.0 < size self.old }
+        ensures entry { self.new.tables.now.present.items ≡ slice_set self.old.tables.now.present.items p.0 true }
+        ensures long { vec_len self.new.tables.now.present ≡ vec_len self.old.tables.now.present }
+        ensures rest { (self.new.tables.now.own ≡ self.old.tables.now.own) × (self.new.tables.now.labels ≡ self.old.tables.now.labels) × (self.new.tables.now.marks ≡ self.old.tables.now.marks) }
+        ensures graph { SameGraph self.old self.new }
     {
-        write(&mut self.present, p, true);
+        write(&mut self.tables.present, p, true);
     }
 }

@@ -1,18 +1,17 @@
-// Lent tables checked, and columns made of them for a store and given back.
-ghost use Rattle.std.specs.Prelude.{◌≡◌, ℕ, ◌≤◌, ◌↔◌, true, [], length, MatchResult};
+// Lent tables checked, and columns over them cleared for a store.
+ghost use Rattle.std.specs.Prelude.{◌≡◌, ◌≤◌, ◌↔◌, true, length, MatchResult};
 ghost use Rattle.common.specs.Checks.{Refused, Passed};
-ghost use Rattle.order.specs.Graph.{size, linked};
-ghost use Rattle.tables.specs.Room.{Limits, Room, ColumnRoom};
+ghost use Rattle.tables.specs.Room.{Limits, Room};
 ghost use Rattle.tables.specs.Fill.{Filled};
-ghost use Rattle.tables.specs.Lent.{Holds};
+ghost use Rattle.tables.specs.Graph.{size};
 ghost use Rattle.tables.specs.Making.{making, Cleared};
 
 use super::columns::Columns;
 use super::tables::Tables;
 use common::Refusal;
 use kinds::LabelKind;
-use links::LinkTable;
-use order::Graph;
+use links::{Slot, Tally, reset};
+use order::first_ranks;
 
 pub const MOST_PLACES: usize = 4096;
 
@@ -44,58 +43,20 @@ impl<R: Copy, S: Copy> Tables<R, S> {
     }
 }
 
-impl<R: Copy, S: Copy> Columns<R, S> {
-    // The columns in the memory of these tables, whatever it holds: no place is theirs yet.
-    pub fn new(tables: Tables<R, S>) -> Columns<R, S>
-        ensures room { (n m : ℕ) → ColumnRoom result n m ↔ Room tables n m }
-        ensures places { size result.graph ≡ 0 }
-        ensures links { linked result.graph ≡ [] }
-        ensures kept { (result.present ≡ tables.present) × (result.own ≡ tables.own) × (result.labels ≡ tables.labels) × (result.marks ≡ tables.marks) }
+impl<'a, R: Copy, S: Copy> Columns<'a, R, S> {
+    // Columns over these tables, whatever they hold: no place is theirs yet.
+    pub fn new(tables: &'a mut Tables<R, S>) -> Columns<'a, R, S>
+        ensures places { size result ≡ 0 }
+        ensures kept { result.tables.now ≡ tables.old }
     {
-        let Tables {
-            present,
-            own,
-            labels,
-            ranks,
-            order,
-            heads,
-            links,
-            marks,
-        } = tables;
-        let graph = Graph::new(LinkTable::new(links, heads), ranks, order);
+        let tally = Tally {
+            count: 0,
+            free: Slot(0),
+        };
         Columns {
-            present,
-            own,
-            labels,
-            graph,
-            marks,
-        }
-    }
-}
-
-// The memory of the columns, with what they hold in it.
-impl<R: Copy, S: Copy> From<Columns<R, S>> for Tables<R, S> {
-    ghost from_gives = { Holds };
-
-    fn from(columns: Columns<R, S>) -> Tables<R, S> {
-        let Columns {
-            present,
-            own,
-            labels,
-            graph,
-            marks,
-        } = columns;
-        let (table, ranks, order) = graph.into_parts();
-        let (links, heads) = table.into_parts();
-        Tables {
-            present,
-            own,
-            labels,
-            ranks,
-            order,
-            heads,
-            links,
-            marks,
+            tables,
+            tally,
+            places: 0,
         }
     }
 }
@@ -111,15 +72,18 @@ fn fill<X: Copy>(table: &mut [X], n: usize, x: X)
 }
 
 // Clears the columns for a new store of n places.
-pub fn clear<K: LabelKind>(columns: &mut Columns<K::Row, K::PassageRow>, n: usize, m: usize)
+pub fn clear<K: LabelKind>(columns: &mut Columns<'_, K::Row, K::PassageRow>, n: usize, m: usize)
     requires limits { Limits n m }
-    requires room { ColumnRoom columns.old n m }
+    requires room { Room columns.old.tables.now n m }
     ensures { Cleared K.means n m columns.old columns.new }
 {
     let row = K::empty().to_row();
-    fill(columns.present.as_mut_slice(), n, false);
-    fill(columns.own.as_mut_slice(), n, row);
-    fill(columns.labels.as_mut_slice(), n, row);
-    fill(columns.marks.as_mut_slice(), n, 0);
-    columns.graph.reset(n);
+    let tables = &mut *columns.tables;
+    fill(tables.present.as_mut_slice(), n, false);
+    fill(tables.own.as_mut_slice(), n, row);
+    fill(tables.labels.as_mut_slice(), n, row);
+    fill(tables.marks.as_mut_slice(), n, 0);
+    first_ranks(tables.ranks.as_mut_slice(), tables.order.as_mut_slice(), n);
+    columns.tally = reset(tables.links.as_mut_slice(), tables.heads.as_mut_slice());
+    columns.places = n;
 }

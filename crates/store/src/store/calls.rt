@@ -13,7 +13,7 @@ use crate::store::Store;
 use common::{PlaceNumber, Refusal};
 use editing::{link_in, own_in, unlink_in};
 use kinds::LabelKind;
-use tables::{Columns, Lent, Tables, clear, read};
+use tables::{Columns, Tables, clear, read};
 
 impl<'a, K: LabelKind> Store<'a, K> {
     // Makes a store of n places for at most m links. Where the sizes or the tables are refused, the store has no places, and `made` says why.
@@ -21,29 +21,18 @@ impl<'a, K: LabelKind> Store<'a, K> {
         ensures { Makes K.means tables.old n m result }
     {
         if let Err(e) = tables.check(n, m) {
-            let columns = Columns::new(Tables::empty(*tables.present.allocator()));
-            let tables = Lent {
-                lender: tables,
-                columns,
-                taken: false,
-            };
             return Store {
-                tables,
+                columns: Columns::new(tables),
                 n: 0,
                 m: 0,
                 permit: None,
                 made: Err(e),
             };
         }
-        let mut columns = Columns::new(tables.take());
+        let mut columns = Columns::new(tables);
         clear::<K>(&mut columns, n, m);
-        let tables = Lent {
-            lender: tables,
-            columns,
-            taken: true,
-        };
         Store {
-            tables,
+            columns,
             n,
             m,
             permit: None,
@@ -69,9 +58,9 @@ impl<K: LabelKind> Store<'_, K> {
 
     pub(crate) fn is_present(&self, p: PlaceNumber) -> bool
         requires { p.0 < self.now.n }
-        ensures { result ≡ present_in self.now.n self.now.tables.columns.present.items p.0 }
+        ensures { result ≡ present_in self.now.n self.now.columns.tables.now.present.items p.0 }
     {
-        read(&self.tables.columns.present, p)
+        read(&self.columns.tables.present, p)
     }
 
     // Whether a link leads from u to v.
@@ -80,7 +69,7 @@ impl<K: LabelKind> Store<'_, K> {
         ensures yes { result ≡ true → IsLinked (view K.means self.now).ledger.links u.0 v.0 }
         ensures no { result ≡ false → IsLinked (view K.means self.now).ledger.links u.0 v.0 → ⊥ }
     {
-        self.tables.columns.graph.is_linked(u, v)
+        self.columns.is_linked(u, v)
     }
 
     // How many links there are.
@@ -88,7 +77,7 @@ impl<K: LabelKind> Store<'_, K> {
         requires { 0 < self.now.n }
         ensures { result ≡ length (view K.means self.now).ledger.links }
     {
-        self.tables.columns.graph.count()
+        self.columns.count()
     }
 
     // The checks that link and unlink share: no permit is out, the list is long enough, and both places are there and present.
@@ -127,7 +116,7 @@ impl<K: LabelKind> Store<'_, K> {
         if self.is_present(p) {
             return Err(Refusal::Present);
         }
-        self.tables.columns.bring(p);
+        self.columns.bring(p);
         Ok(())
     }
 
@@ -142,7 +131,7 @@ impl<K: LabelKind> Store<'_, K> {
         if !self.is_present(p) {
             return Err(Refusal::Absent);
         }
-        Ok(K::from_row(read(&self.tables.columns.labels, p)))
+        Ok(K::from_row(read(&self.columns.tables.labels, p)))
     }
 
     // Replaces the own label of a place, and writes the reported places to the list. Answers how many were reported, and how many changed.
@@ -168,7 +157,7 @@ impl<K: LabelKind> Store<'_, K> {
         if !self.is_present(p) {
             return Err(Refusal::Absent);
         }
-        Ok(own_in::<K>(&mut self.tables.columns, p, label, list))
+        Ok(own_in::<K>(&mut self.columns, p, label, list))
     }
 
     // Takes the link from u to v away, and writes the reported places to the list. Answers how many were reported, and how many changed.
@@ -186,7 +175,7 @@ impl<K: LabelKind> Store<'_, K> {
         if !self.is_linked(u, v) {
             return Err(Refusal::NotLinked);
         }
-        Ok(unlink_in::<K>(&mut self.tables.columns, u, v, list))
+        Ok(unlink_in::<K>(&mut self.columns, u, v, list))
     }
 
     // Links u to v, unless it closes a circle, and writes the reported places to the list. Answers how many were reported, and how many changed.
@@ -209,6 +198,6 @@ impl<K: LabelKind> Store<'_, K> {
             return Err(Refusal::Full);
         }
         let row = K::passage_to_row(passage);
-        link_in::<K>(&mut self.tables.columns, u, v, row, list)
+        link_in::<K>(&mut self.columns, u, v, row, list)
     }
 }

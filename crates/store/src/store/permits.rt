@@ -30,7 +30,7 @@ impl<K: LabelKind> Store<'_, K> {
         requires { p.0 < self.now.n }
         ensures { result ≡ K.means.free day.number ((view K.means self.now).label p.0) }
     {
-        K::from_row(read(&self.tables.columns.labels, p)).is_free(day)
+        K::from_row(read(&self.columns.tables.labels, p)).is_free(day)
     }
 
     // Whether a link leaves a place.
@@ -39,7 +39,7 @@ impl<K: LabelKind> Store<'_, K> {
         ensures yes { result ≡ true → Leaves (view K.means self.now).ledger.links p.0 }
         ensures no { result ≡ false → Leaves (view K.means self.now).ledger.links p.0 → ⊥ }
     {
-        self.tables.columns.graph.has_leaving(p)
+        self.columns.has_leaving(p)
     }
 
     // Hands out a permit to erase a place that is free on the day and that no link leaves.
@@ -107,7 +107,7 @@ impl<K: LabelKind> Store<'_, K> {
         }
         let place = permit.place();
         permit.spend();
-        discard_in::<K>(&mut self.tables.columns, place);
+        discard_in::<K>(&mut self.columns, place);
         self.permit = None;
         Ok(())
     }

@@ -7,7 +7,7 @@ use Rattle.links.proofs.Ties.{follows}
 use Rattle.law.specs.Calls.{Permit, none, out, is_out}
 use Rattle.law.specs.State.{Same}
 use Rattle.order.specs.Tables.{order_in}
-use Rattle.order.specs.Graph.{linked}
+use Rattle.tables.specs.Graph.{linked}
 use Rattle.recompute.specs.Tables.{value_in, arrows_in}
 use Rattle.tables.specs.Columns.{present_in, values_in}
 use Rattle.tables.specs.View.{links_of}
@@ -36,22 +36,22 @@ returns-clause-told g c =
     let k = m.kind in
     let self = c.args.self.now in
     let n = self.n in
-    let old = self.tables.columns in
+    let old = self.columns in
     let new = c.discard_in.new.t in
-    let xs = linked old.graph in
-    let ys = linked new.graph in
+    let xs = linked old in
+    let ys = linked new in
     let p = c.args.permit.place.0 in
     let ours : permit_in self.permit ≡ out p c.args.permit.day.number = c.is_out.ensures.yes c.if-not-is_out.false in
     let some : 0 < n = let l = held_some self.permit n p c.args.permit.day.number self.held ours in omega (arith, l) in
-    let at = self.places some in
+    let at = self.places in
     let e = subst (λ (q : ℕ). Discarded m q old new) (ap (λ x. x.0) c.place-place.ensures) c.discard_in.ensures in
-    let present = subst (λ j. (q : ℕ) → present_in j new.present.items q ≡ put (present_in j old.present.items) p false q) at e.present in
-    let own = subst (λ j. (q : ℕ) → values_in m j new.own.items q ≡ put (values_in m j old.own.items) p k.empty q) at e.own in
-    let labels = subst (λ j. (q : ℕ) → values_in m j new.labels.items q ≡ put (values_in m j old.labels.items) p k.empty q) at e.labels in
+    let present = subst (λ j. (q : ℕ) → present_in j new.tables.now.present.items q ≡ put (present_in j old.tables.now.present.items) p false q) at e.present in
+    let own = subst (λ j. (q : ℕ) → values_in m j new.tables.now.own.items q ≡ put (values_in m j old.tables.now.own.items) p k.empty q) at e.own in
+    let labels = subst (λ j. (q : ℕ) → values_in m j new.tables.now.labels.items q ≡ put (values_in m j old.tables.now.labels.items) p k.empty q) at e.labels in
     let are : links_of m n xs ≡ arrows_in m xs = links_are m n xs some in
     let are' : links_of m n ys ≡ arrows_in m ys = links_are m n ys some in
     let before : Ledger V P = (view m self).ledger in
-    let after : Ledger V P = record { present = present_in n new.present.items; own = value_in m n new.own.items; links = links_of m n ys } in
+    let after : Ledger V P = record { present = present_in n new.tables.now.present.items; own = value_in m n new.tables.now.own.items; links = links_of m n ys } in
     let cut : Ledger V P = next k before (ledger.discard p) in
     let alike = (follows g.row.K-PassageRow.Denot V P).shuts k before m.leads xs ys p e.shut (alike_eq (arrows_in m xs) before.links (sym are)) in
     let same : Same after cut = same_by cut after (arrows_in m ys) present own are' alike in

@@ -4,10 +4,11 @@ use Rattle.paths.specs.Ledger.{Link, Ledger, Leads}
 use Rattle.paths.specs.Order.{rank_in}
 use Rattle.paths.specs.Walk.{Put, Recomputed}
 use Rattle.law.specs.Calls.{is_out}
-use Rattle.order.specs.Tables.{order_in, Sound}
+use Rattle.links.specs.Table.{links as links_in}
+use Rattle.order.specs.Tables.{order_in}
 use Rattle.order.specs.Tables as table
-use Rattle.order.specs.Graph.{linked, ranks_of, order_of}
-use Rattle.order.proofs.Graphs.{sound_of}
+use Rattle.tables.specs.Graph.{linked, ranks_of, order_of}
+use Rattle.tables.proofs.Graphs.{sound_at}
 use Rattle.recompute.specs.Tables.{numbers, value_in, arrows_in, Recomputes}
 use Rattle.recompute.proofs.Grounds.{rising}
 use Rattle.tables.specs.Columns.{present_in}
@@ -23,10 +24,10 @@ returns-clause-told g c =
     let P = g.row.K-Passage.Denot in
     let self = c.args.self.now in
     let n = self.n in
-    let old = self.tables.columns in
+    let old = self.columns in
     let new = c.own_in.new.t in
-    let xs = linked old.graph in
-    let ranks = ranks_of old.graph in
+    let xs = linked old in
+    let ranks = ranks_of old in
     let p = c.args.p.0 in
     let x = m.value c.args.label in
     let list = c.own_in.new.list in
@@ -34,21 +35,21 @@ returns-clause-told g c =
     let e = c.own_in.ensures.owned in
     let low : c.args.p.0 < self.n = omega (arith, c.if-index-self.false, c.index.ensures) in
     let some : 0 < self.n = omega (arith, low) in
-    let size = self.places some in
-    let sound = subst (λ k. Sound k ranks (order_of old.graph) xs) size (sound_of old.graph) in
-    let own = subst (λ k. Put (value_in m k old.own.items) (value_in m k new.own.items) p x) size e.own in
-    let labels = subst (λ k. Recomputes m k new.own.items xs ranks p old.labels.items new.labels.items list counts) size e.labels in
-    let links : links_of m n (linked new.graph) ≡ links_of m n xs = ap (λ G. links_of m n (linked G)) e.graph in
+    let size = self.places in
+    let sound = sound_at old n size some in
+    let own = subst (λ k. Put (value_in m k old.tables.now.own.items) (value_in m k new.tables.now.own.items) p x) size e.own in
+    let labels = subst (λ k. Recomputes m k new.tables.now.own.items xs ranks p old.tables.now.labels.items new.tables.now.labels.items list counts) size e.labels in
+    let links : links_of m n (linked new) ≡ links_of m n xs = ap (λ v. links_of m n (links_in v.items)) e.graph.links.0 in
     let are : links_of m n xs ≡ arrows_in m xs = links_are m n xs some in
-    let order : order_in n (order_of new.graph) ≡ order_in n (order_of old.graph) = ap (λ G. order_in n (order_of G)) e.graph in
-    let there : (u v : ℕ) (t : P) → Leads (links_of m n (linked new.graph)) u v t → Leads (links_of m n xs) u v t = λ u v t. subst (λ (ls : List (Link P)). Leads ls u v t) links in
-    let back : (u v : ℕ) (t : P) → Leads (links_of m n xs) u v t → Leads (links_of m n (linked new.graph)) u v t = λ u v t. subst (λ (ls : List (Link P)). Leads ls u v t) (sym links) in
+    let order : order_in n (order_of new) ≡ order_in n (order_of old) = ap (λ v. order_in n v.items) e.graph.ranks.1 in
+    let there : (u v : ℕ) (t : P) → Leads (links_of m n (linked new)) u v t → Leads (links_of m n xs) u v t = λ u v t. subst (λ (ls : List (Link P)). Leads ls u v t) links in
+    let back : (u v : ℕ) (t : P) → Leads (links_of m n xs) u v t → Leads (links_of m n (linked new)) u v t = λ u v t. subst (λ (ls : List (Link P)). Leads ls u v t) (sym links) in
     let before : Ledger m.Value P = (view m self).ledger in
-    let after : Ledger m.Value P = record { present = present_in n new.present.items; own = value_in m n new.own.items; links = links_of m n (linked new.graph) } in
+    let after : Ledger m.Value P = record { present = present_in n new.tables.now.present.items; own = value_in m n new.tables.now.own.items; links = links_of m n (linked new) } in
     record {
       passed = (
         λ i. both_ways (is_out (permit_in self.permit)) (sym c.permit_is_out.ensures ∙ c.if-permit_is_out.false) i,
-        (λ l. omega (arith, c.if-list-self.false), (λ l. omega (arith, low), (λ i. both_ways (present_in n old.present.items p) i (sym c.is_present.ensures ∙ c.if-not-is_present.false), tt))),
+        (λ l. omega (arith, c.if-list-self.false), (λ l. omega (arith, low), (λ i. both_ways (present_in n old.tables.now.present.items p) i (sym c.is_present.ensures ∙ c.if-not-is_present.false), tt))),
       );
       edits = record {
         does = record {
@@ -64,10 +65,10 @@ returns-clause-told g c =
           permit = refl;
         };
         labels = λ joins.
-            subst (λ (o : List ℕ). Recomputed m.kind after (rank_in o) p (value_in m n old.labels.items) (value_in m n new.labels.items) (numbers (take counts.0 list)) counts) (sym order)
-            (settled m g.met.K.LabelKind.lawful.laws n new.own.items xs ranks (order_of old.graph) sound before after (table.rank_in ranks)
+            subst (λ (o : List ℕ). Recomputed m.kind after (rank_in o) p (value_in m n old.tables.now.labels.items) (value_in m n new.tables.now.labels.items) (numbers (take counts.0 list)) counts) (sym order)
+            (settled m g.met.K.LabelKind.lawful.laws n new.tables.now.own.items xs ranks (order_of old) sound before after (table.rank_in ranks)
             (λ u v t h. rising m n ranks xs sound.rising u v t (subst (λ (ls : List (Link P)). Leads ls u v t) are h))
             p low (λ q. refl) (links ∙ are) (λ q ne. record { own = sym (own.other q ne); links = λ u t. (back u q t, there u q t) })
-            old.labels.items new.labels.items list counts labels joins);
+            old.tables.now.labels.items new.tables.now.labels.items list counts labels joins);
       };
     }
