@@ -98,3 +98,38 @@ fn main(rt: HostRuntime) -> io::Result<()> {
     say(&rt, "link 1 1", store.link(b, b, pass, &mut list))?;
     show(&rt, &store, 9)
 }
+
+#[cfg(test)]
+mod tests {
+    use crate::{LINKS, PLACES, lent};
+    use common::PlaceNumber;
+    use house::{Expiry, ExpiryPassage};
+    use std::test::Fail;
+    use store::Store;
+
+    // A store's last use ends its loan: the tables are the caller's then, and can be lent anew.
+    #[test]
+    fn tables_are_lent_anew(rt: HostRuntime) -> Result<(), Fail> {
+        let mut tables = lent(rt.alloc())?;
+        let [first, second] = [PlaceNumber::new(0), PlaceNumber::new(1)];
+        let mut list = [first; PLACES];
+        let mut store: Store<'_, Expiry> = Store::new(&mut tables, PLACES, LINKS);
+        assert_eq!(rt; (store.bring(first), store.bring(second)), (Ok(()), Ok(())));
+        let pass = ExpiryPassage::Pass;
+        assert_eq!(rt; store.link(first, second, pass, &mut list), Ok((1, 0)));
+        let label = Expiry { number: 50 };
+        assert_eq!(rt; store.own(first, label, &mut list), Ok((2, 2)));
+        assert_eq!(rt; tables.present.get(1).copied(), Some(true));
+        assert_eq!(rt; tables.own.get(1).copied(), Some(0));
+        assert_eq!(rt; tables.labels.get(1).copied(), Some(50));
+        if let Some(mark) = tables.marks.last_mut() {
+            *mark = 7;
+        }
+        let mut again: Store<'_, Expiry> = Store::new(&mut tables, PLACES - 1, LINKS);
+        assert_eq!(rt; again.made(), Ok(()));
+        assert_eq!(rt; again.bring(second), Ok(()));
+        assert_eq!(rt; tables.labels.get(1).copied(), Some(0));
+        assert_eq!(rt; tables.marks.last().copied(), Some(7));
+        Ok(())
+    }
+}
