@@ -1,5 +1,5 @@
 -- Tables that are lent to a call, and given back. Assumes nothing.
-use Rattle.std.proofs.Common.{◌≡◌, ◌<◌, List, length, Vec, sym, ap, ◌∙◌, subst, subst₂}
+use Rattle.std.proofs.Common.{◌≡◌, List, length, Vec, sym, ap, ◌∙◌, subst, subst₂}
 use mathlib.Core.HLevel.{is_prop→PathP}
 use native.Mathlib.Nat.{ℕ_set}
 use Rattle.std.specs.Vec.{with_items}
@@ -8,7 +8,6 @@ use Rattle.links.specs.declared.row.LinkRow.{LinkRow}
 use Rattle.links.specs.declared.row.Heads.{Heads}
 use Rattle.links.specs.declared.row.Tally.{Tally}
 use Rattle.links.specs.Table.{Kept}
-use Rattle.tables.specs.declared.columns.Columns.{Columns}
 
 -- what a table holds that was lent: the entries as they came back
 pub over : {X Z : Type 0} (v : Vec X Z) (ws : List X) (Q : List X → Type 0) → length ws ≡ v.len → Q ws → Q (with_items v ws).items
@@ -22,11 +21,7 @@ same_table v ws e =
     let ok = is_prop→PathP (λ i. v.len ≡ length (items i)) (λ i. ℕ_set v.len (length (items i))) (with_items v ws).ok.0 v.ok.0 in
     λ i. record { ptr = v.ptr; len = v.len; cap = v.cap; alloc = v.alloc; items = items i; ok = (ok i, v.ok.1); small = v.small }
 
--- what is lent of the links is in order
-pub kept_lent : {R S : Type 0} (c : Columns R S) (rows : List (LinkRow S)) (heads : List Heads) → 0 < c.places → rows ≡ c.tables.now.links.items → heads ≡ c.tables.now.heads.items → Kept rows heads c.tally
-kept_lent c rows heads some e f = subst₂ (λ rs hs. Kept rs hs c.tally) (sym e) (sym f) (c.kept some)
-
--- and so is what comes back
+-- rows and heads that came back in order
 pub kept_back : {S Y Z : Type 0} (v : Vec (LinkRow S) Y) (w : Vec Heads Z) (rows : List (LinkRow S)) (heads : List Heads) (tally : Tally) → length rows ≡ v.len → length heads ≡ w.len → Kept rows heads tally →
     Kept (with_items v rows).items (with_items w heads).items tally
 kept_back v w rows heads tally e f k = subst₂ (λ rs hs. Kept rs hs tally) (sym (with_items_is v rows e)) (sym (with_items_is w heads f)) k

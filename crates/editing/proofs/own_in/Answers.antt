@@ -2,7 +2,8 @@ use Rattle.std.proofs.Common.{◌≤◌, length, refl, sym, ap, ◌∙◌, subst
 use Rattle.paths.specs.Walk.{Put}
 use Rattle.recompute.specs.Tables.{value_in}
 use Rattle.recompute.proofs.Rows.{put_set}
-use Rattle.tables.specs.Graph.{size, linked, ranks_of}
+use Rattle.tables.specs.Graph.{size, linked, ranks_of, SameGraph}
+use Rattle.tables.proofs.Graphs.{same_space}
 use Rattle.editing.proofs.Moves.{recomputes_at}
 use Rattle.editing.proofs.own_in.Goals as goal
 
@@ -16,7 +17,7 @@ returns-clause-owned g c =
     let made = c.recompute_from.new.t in
     let e = c.recompute_from.ensures in
     let same = e.same in
-    let graph = same.2 in
+    let graph : SameGraph t made = record { size = same.2.size; ranks = same.2.ranks; links = same.2.links } in
     let own = t.tables.now.own.items in
     let long : n ≤ length own = omega (arith, t.rows.0, t.tables.now.own.ok.0) in
     let put : Put (value_in m n own) (value_in m n made.tables.now.own.items) p (m.value (m.stands row)) =
@@ -26,11 +27,11 @@ returns-clause-owned g c =
         present = ap (λ v. v.len) same.0;
         own = ap (λ v. v.len) same.1 ∙ c.write.ensures.long;
         labels = e.long;
-        graph = record { size = graph.size; ranks = ap (λ v. v.len) graph.ranks.0; order = ap (λ v. v.len) graph.ranks.1; heads = ap (λ v. v.len) graph.links.1; links = ap (λ v. v.len) graph.links.0 };
+        graph = same_space t made graph;
         marks = e.marks;
       };
       present = same.0;
-      graph = record { size = graph.size; ranks = graph.ranks; links = graph.links };
+      graph = graph;
       own = subst (λ x. Put (value_in m n own) (value_in m n made.tables.now.own.items) p x) (ap m.value c.to_row.ensures) put;
       labels = recomputes_at m p c.recompute_from.new.list c.recompute_from.result n n _ made.tables.now.own.items (linked t) (linked t) (ranks_of t) (ranks_of t) t.tables.now.labels.items t.tables.now.labels.items made.tables.now.labels.items made.tables.now.labels.items
           refl (sym (ap (λ v. v.items) same.1)) refl refl refl refl e.recomputes;
