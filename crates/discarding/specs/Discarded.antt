@@ -5,10 +5,11 @@ use Rattle.kinds.specs.Meanings.{Meaning}
 use Rattle.links.specs.Links.{Shut}
 use Rattle.tables.specs.declared.columns.Columns.{Columns}
 use Rattle.tables.specs.Columns.{present_in, values_in}
-use Rattle.tables.specs.Graph.{size, linked, SameSpace, SameRanks}
+use Rattle.tables.specs.Graph.{size, linked, SameLoan, SameSpace, SameRanks}
 
 -- p is absent, with an empty own label, an empty label and no link into it, and nothing else is changed
 pub record Discarded {K P R S : Type 0} (means : Meaning K P R S) (p : ℕ) (old new : Columns R S) : Type 0 where
+  pub loan : SameLoan old new
   pub space : SameSpace old new
   pub sizes : (vec_len new.tables.now.present ≡ vec_len old.tables.now.present) × (vec_len new.tables.now.own ≡ vec_len old.tables.now.own) × (vec_len new.tables.now.labels ≡ vec_len old.tables.now.labels)
   pub present : (q : ℕ) → present_in (size old) (vec_items new.tables.now.present) q ≡ put (present_in (size old) (vec_items old.tables.now.present)) p false q

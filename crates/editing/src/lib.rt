@@ -4,7 +4,7 @@
 ghost use Rattle.std.specs.Prelude.{◌≡◌, ◌<◌, ◌≤◌, length, drop, vec_len, vec_items, MatchResult};
 ghost use Rattle.links.specs.Table.{Leads, link as link_of};
 ghost use Rattle.common.specs.declared.refusal.Refusal.TheVariants.{Circle};
-ghost use Rattle.tables.specs.Graph.{size, linked, ranks_of, link_room, SameGraph};
+ghost use Rattle.tables.specs.Graph.{size, linked, ranks_of, link_room, SameGraph, SameLoan};
 ghost use Rattle.recompute.specs.Tables.{Recomputes};
 ghost use Rattle.editing.specs.Edited.{Owned, Unlinked, Linked, Circles, Steady};
 
@@ -21,6 +21,7 @@ fn recompute_from<K: LabelKind>(
 ) -> (usize, usize)
     requires place { e.0 < size t.old }
     requires list { size t.old ≤ length list.old }
+    ensures loan { SameLoan t.old t.new }
     ensures recomputes { Recomputes K.means (size t.old) t.old.tables.now.own.items (linked t.old) (ranks_of t.old) e.0 t.old.tables.now.labels.items t.new.tables.now.labels.items list.new result }
     ensures same { (t.new.tables.now.present ≡ t.old.tables.now.present) × (t.new.tables.now.own ≡ t.old.tables.now.own) × SameGraph t.old t.new }
     ensures long { vec_len t.new.tables.now.labels ≡ vec_len t.old.tables.now.labels }
@@ -52,6 +53,7 @@ pub fn own_in<K: LabelKind>(
 ) -> (usize, usize)
     requires place { p.0 < size t.old }
     requires list { size t.old ≤ length list.old }
+    ensures loan { SameLoan t.old t.new }
     ensures owned { Owned K.means p.0 (K.means.value label) t.old t.new list.new result }
     ensures rest { drop result.0 list.new ≡ drop result.0 list.old }
 {
@@ -68,6 +70,7 @@ pub fn unlink_in<K: LabelKind>(
 ) -> (usize, usize)
     requires places { (u.0 < size t.old) × (v.0 < size t.old) }
     requires list { size t.old ≤ length list.old }
+    ensures loan { SameLoan t.old t.new }
     ensures unlinked { Unlinked K.means u.0 v.0 t.old t.new list.new result }
     ensures rest { drop result.0 list.new ≡ drop result.0 list.old }
 {
@@ -87,6 +90,7 @@ pub fn link_in<K: LabelKind>(
     requires list { size t.old ≤ length list.old }
     requires room { length (linked t.old) < link_room t.old }
     requires fresh { Leads (linked t.old) u.0 v.0 → ⊥ }
+    ensures loan { SameLoan t.old t.new }
     ensures steady { Steady t.old t.new }
     ensures told { MatchResult result (λ c. Linked K.means (link_of u v row) t.old t.new list.new c) (λ e. (e ≡ Circle) × Circles u.0 v.0 t.old t.new) }
     ensures rest { MatchResult result (λ c. drop c.0 list.new ≡ drop c.0 list.old) (λ _. list.new ≡ list.old) }

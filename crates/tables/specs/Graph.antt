@@ -49,3 +49,7 @@ pub record SamePlaces {R S : Type 0} (c d : Columns R S) : Type 0 where
   pub present : d.tables.now.present ≡ c.tables.now.present
   pub own : d.tables.now.own ≡ c.tables.now.own
   pub labels : d.tables.now.labels ≡ c.tables.now.labels
+
+-- they are columns of the same tables, whatever these hold
+abbrev pub SameLoan : {R S : Type 0} → Columns R S → Columns R S → Type 0
+SameLoan c d = d.tables.ghost_name ≡ c.tables.ghost_name

@@ -9,7 +9,7 @@ use Rattle.order.specs.Tables.{order_in}
 use Rattle.tables.specs.declared.columns.Columns.{Columns}
 use Rattle.tables.specs.declared.tables.Tables.{Tables}
 use Rattle.tables.specs.Room.{Limits, Room}
-use Rattle.tables.specs.Graph.{size, linked, order_of}
+use Rattle.tables.specs.Graph.{size, linked, order_of, SameLoan}
 use Rattle.tables.specs.Columns.{present_in, values_in}
 
 -- the checks of making, in order
@@ -18,6 +18,7 @@ making t n m = (BadSize when (Limits n m → ⊥)) ∷ (ShortTable when (Room t 
 
 -- new are the columns old, cleared for a new store of n places for m links
 pub record Cleared {K P R S : Type 0} (means : Meaning K P R S) (n m : ℕ) (old new : Columns R S) : Type 0 where
+  pub loan : SameLoan old new
   pub room : Room new.tables.now n m
   pub places : size new ≡ n
   pub present : (p : ℕ) → present_in n (vec_items new.tables.now.present) p ≡ false

@@ -1,6 +1,6 @@
 // Entries of the columns of places.
 ghost use Rattle.std.specs.Prelude.{◌≡◌, ◌<◌, true, length, vec_len, slice_index_or, slice_set};
-ghost use Rattle.tables.specs.Graph.{size, SameGraph};
+ghost use Rattle.tables.specs.Graph.{size, SameGraph, SameLoan};
 
 use super::columns::Columns;
 use common::PlaceNumber;
@@ -31,6 +31,7 @@ impl<R: Copy, S: Copy> Columns<'_, R, S> {
         ensures long { vec_len self.new.tables.now.present ≡ vec_len self.old.tables.now.present }
         ensures rest { (self.new.tables.now.own ≡ self.old.tables.now.own) × (self.new.tables.now.labels ≡ self.old.tables.now.labels) × (self.new.tables.now.marks ≡ self.old.tables.now.marks) }
         ensures graph { SameGraph self.old self.new }
+        ensures loan { SameLoan self.old self.new }
     {
         write(&mut self.tables.present, p, true);
     }

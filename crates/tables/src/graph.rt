@@ -4,7 +4,7 @@ ghost use Rattle.common.specs.declared.refusal.Refusal.TheVariants.{Circle};
 ghost use Rattle.links.specs.Table.{Leads, link as link_of};
 ghost use Rattle.links.specs.Links.{Gained, Lost, Shut};
 ghost use Rattle.order.specs.Admit.{Admitted, Circular};
-ghost use Rattle.tables.specs.Graph.{size, linked, ranks_of, order_of, link_room, SameGraph, SameLinks, SamePlaces, SameRanks, SameSpace};
+ghost use Rattle.tables.specs.Graph.{size, linked, ranks_of, order_of, link_room, SameGraph, SameLinks, SameLoan, SamePlaces, SameRanks, SameSpace};
 
 use super::columns::Columns;
 use common::{PlaceNumber, Refusal};
@@ -44,6 +44,7 @@ impl<R: Copy, S: Copy> Columns<'_, R, S> {
     // Makes room for a new link from u to v, as `order::admit` does.
     fn admit(&mut self, u: PlaceNumber, v: PlaceNumber) -> Result<(), Refusal>
         requires ends { (u.0 < size self.old) × (v.0 < size self.old) }
+        ensures loan { SameLoan self.old self.new }
         ensures space { SameSpace self.old self.new }
         ensures places { SamePlaces self.old self.new }
         ensures links { SameLinks self.old self.new }
@@ -66,6 +67,7 @@ impl<R: Copy, S: Copy> Columns<'_, R, S> {
         requires ends { (u.0 < size self.old) × (v.0 < size self.old) }
         requires room { length (linked self.old) < link_room self.old }
         requires fresh { Leads (linked self.old) u.0 v.0 → ⊥ }
+        ensures loan { SameLoan self.old self.new }
         ensures space { SameSpace self.old self.new }
         ensures places { SamePlaces self.old self.new }
         ensures marks { vec_items self.new.tables.now.marks ≡ vec_items self.old.tables.now.marks }
@@ -85,6 +87,7 @@ impl<R: Copy, S: Copy> Columns<'_, R, S> {
     // Takes the link from u to v out, if there is one.
     pub fn unlink(&mut self, u: PlaceNumber, v: PlaceNumber)
         requires { u.0 < size self.old }
+        ensures loan { SameLoan self.old self.new }
         ensures space { SameSpace self.old self.new }
         ensures places { SamePlaces self.old self.new }
         ensures marks { self.new.tables.now.marks ≡ self.old.tables.now.marks }
@@ -101,6 +104,7 @@ impl<R: Copy, S: Copy> Columns<'_, R, S> {
     // Takes every link into p out.
     pub fn unlink_entering(&mut self, p: PlaceNumber)
         requires { p.0 < size self.old }
+        ensures loan { SameLoan self.old self.new }
         ensures space { SameSpace self.old self.new }
         ensures places { SamePlaces self.old self.new }
         ensures marks { self.new.tables.now.marks ≡ self.old.tables.now.marks }

@@ -48,6 +48,7 @@ impl<'a, R: Copy, S: Copy> Columns<'a, R, S> {
     pub fn new(tables: &'a mut Tables<R, S>) -> Columns<'a, R, S>
         ensures places { size result ≡ 0 }
         ensures kept { result.tables.now ≡ tables.old }
+        ensures loan { result.tables.ghost_name ≡ tables.entry.ghost_name }
     {
         let tally = Tally {
             count: 0,

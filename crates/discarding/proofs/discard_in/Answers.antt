@@ -24,6 +24,7 @@ returns g c =
     let owns : p < length mid.tables.now.own.items = omega (arith, c.requires, ap length own, old.rows.0, old.tables.now.own.ok.0) in
     let says : p < length mid.tables.now.labels.items = omega (arith, c.requires, ap length labels, old.rows.1, old.tables.now.labels.ok.0) in
     record {
+      loan = e.loan;
       space = record { size = e.space.size; ranks = e.space.ranks; order = e.space.order; heads = e.space.heads; links = e.space.links };
       sizes = (c.write-3.ensures.long ∙ ap (λ v. v.len) e.places.present, c.write.ensures.long ∙ ap (λ v. v.len) e.places.own, c.write-2.ensures.long ∙ ap (λ v. v.len) e.places.labels);
       present = λ q.

@@ -53,6 +53,7 @@ returns g c =
     let wide : length order ≡ old.tables.now.order.len = search rules in
     let ordered = over old.tables.now.order order (λ ps. (r : ℕ) → r < n → place_in ps r ≡ r) wide c.first_ranks.ensures.places in
     record {
+      loan = refl;
       room = c.requires.room;
       places = refl;
       present = column_flat (λ b. b) false n _ false (ap (take n) present ∙ c.fill.ensures.front) refl;
