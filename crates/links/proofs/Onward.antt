@@ -18,6 +18,10 @@ use Rattle.links.proofs.Haves.{slot_having, of_slot}
 use Rattle.links.proofs.Ends.{one_link, inside}
 use Rattle.links.proofs.Owns.{bounded}
 
+key_inside : {R : Type 0} (side : Side) (l : Link R) (n : ℕ) → (l.source.0 < n) × (l.target.0 < n) → key_of side l < n
+key_inside Leaving l n i = i.1
+key_inside Entering l n i = i.0
+
 same_ends : {R : Type 0} (side : Side) (l m : Link R) → end_of side l ≡ end_of side m → key_of side l ≡ key_of side m → (l.source.0 ≡ m.source.0) × (l.target.0 ≡ m.target.0)
 same_ends Leaving l m e k = (e, k)
 same_ends Entering l m e k = (k, e)
@@ -62,37 +66,40 @@ module _ {R : Type 0} (side : Side) (rows : List (LinkRow R)) where
         let v = link_live rows (next side (at rows s)) m f in
         omega (arith, climbing s w.1 v.1, (key_at s l e).0, (key_at (next side (at rows s)) m f).0)
 
-    -- no more links come than there are numbers below that one
-    enough : (f g s : ℕ) → ((l : Link R) → link_at rows s ≡ Some l → above side rows ≤ f + key_of side l) → ((l : Link R) → link_at rows s ≡ Some l → above side rows ≤ g + key_of side l) →
-        onward side rows f s ≡ onward side rows g s
-    enough zero zero s a b = refl
-    enough zero (suc g) s a b = go (link_at rows s) refl
-      where
-        go : (o : Option (Link R)) → link_at rows s ≡ o → [] ≡ onward side rows (suc g) s
-        go None e = sym (stop (suc g) s e)
-        go (Some l) e = let k = (key_at s l e).1 in let i = a l e in absurd (omega arith)
-    enough (suc f) zero s a b = go (link_at rows s) refl
-      where
-        go : (o : Option (Link R)) → link_at rows s ≡ o → onward side rows (suc f) s ≡ []
-        go None e = stop (suc f) s e
-        go (Some l) e = let k = (key_at s l e).1 in let i = b l e in absurd (omega arith)
-    enough (suc f) (suc g) s a b = go (link_at rows s) refl (enough f g (next side (at rows s)))
-      where
-        s' : ℕ
-        s' = next side (at rows s)
+    module _ (top : ℕ) (low : (s : ℕ) (l : Link R) → link_at rows s ≡ Some l → key_of side l < top) where
+      -- no more links come than there are numbers below one that is above their other ends
+      enough : (f g s : ℕ) → ((l : Link R) → link_at rows s ≡ Some l → top ≤ f + key_of side l) → ((l : Link R) → link_at rows s ≡ Some l → top ≤ g + key_of side l) →
+          onward side rows f s ≡ onward side rows g s
+      enough zero zero s a b = refl
+      enough zero (suc g) s a b = go (link_at rows s) refl
+        where
+          go : (o : Option (Link R)) → link_at rows s ≡ o → [] ≡ onward side rows (suc g) s
+          go None e = sym (stop (suc g) s e)
+          go (Some l) e = let k = (low s l e) in let i = a l e in absurd (omega arith)
+      enough (suc f) zero s a b = go (link_at rows s) refl
+        where
+          go : (o : Option (Link R)) → link_at rows s ≡ o → onward side rows (suc f) s ≡ []
+          go None e = stop (suc f) s e
+          go (Some l) e = let k = (low s l e) in let i = b l e in absurd (omega arith)
+      enough (suc f) (suc g) s a b = go (link_at rows s) refl (enough f g (next side (at rows s)))
+        where
+          s' : ℕ
+          s' = next side (at rows s)
 
-        go : (o : Option (Link R)) → link_at rows s ≡ o →
-            (((m : Link R) → link_at rows s' ≡ Some m → above side rows ≤ f + key_of side m) → ((m : Link R) → link_at rows s' ≡ Some m → above side rows ≤ g + key_of side m) → onward side rows f s' ≡ onward side rows g s') →
-            onward side rows (suc f) s ≡ onward side rows (suc g) s
-        go None e more = stop (suc f) s e ∙ sym (stop (suc g) s e)
-        go (Some l) e more =
-            ap (then (link_at rows s)) (more (λ m q. let i = a l e in let c = climbs s l m e q in omega arith) (λ m q. let i = b l e in let c = climbs s l m e q in omega arith))
+          go : (o : Option (Link R)) → link_at rows s ≡ o →
+              (((m : Link R) → link_at rows s' ≡ Some m → top ≤ f + key_of side m) → ((m : Link R) → link_at rows s' ≡ Some m → top ≤ g + key_of side m) → onward side rows f s' ≡ onward side rows g s') →
+              onward side rows (suc f) s ≡ onward side rows (suc g) s
+          go None e more = stop (suc f) s e ∙ sym (stop (suc g) s e)
+          go (Some l) e more =
+              ap (then (link_at rows s)) (more (λ m q. let i = a l e in let c = climbs s l m e q in omega arith) (λ m q. let i = b l e in let c = climbs s l m e q in omega arith))
 
-    -- a link comes, and then those from the next slot on
-    pub step : (s : ℕ) (l : Link R) → link_at rows s ≡ Some l → onward side rows (above side rows) s ≡ l ∷ onward side rows (above side rows) (next side (at rows s))
-    step s l e =
-        let n = above side rows in
-        enough n (suc n) s (λ m q. omega arith) (λ m q. omega arith) ∙ ap (λ o. then o (onward side rows n (next side (at rows s)))) e
+      -- a link comes, and then those from the next slot on
+      step_to : (n s : ℕ) (l : Link R) → top ≤ n → link_at rows s ≡ Some l → onward side rows n s ≡ l ∷ onward side rows n (next side (at rows s))
+      step_to n s l le e = enough n (suc n) s (λ m q. omega arith) (λ m q. omega arith) ∙ ap (λ o. then o (onward side rows n (next side (at rows s)))) e
+
+    -- so too up to the number above all other ends
+    pub step_on : (s : ℕ) (l : Link R) → link_at rows s ≡ Some l → onward side rows (above side rows) s ≡ l ∷ onward side rows (above side rows) (next side (at rows s))
+    step_on s l e = step_to (above side rows) (λ k m f. (key_at k m f).1) (above side rows) s l (omega arith) e
 
 module _ {R : Type 0} (side : Side) (rows : List (LinkRow R)) (heads : List Heads) (count free : ℕ) (so : Sound rows heads count free) where
   -- at the end no link is left
@@ -148,11 +155,36 @@ module _ {R : Type 0} (side : Side) (rows : List (LinkRow R)) (heads : List Head
             rising = (λ m h. ((more.members m).0 h).2, more.rising);
           })
 
-  pub all_links : (n p : ℕ) → n ≡ length heads → p < length heads → LinksOf side (links rows) n p (onward side rows (above side rows) (head_of side (get_or heads p no_heads)))
-  all_links n p e l =
+  -- every link there, from the head of the thread on, up to the number above all other ends
+  pub all_above : (n p : ℕ) → n ≡ length heads → p < length heads → LinksOf side (links rows) n p (onward side rows (above side rows) (head_of side (get_or heads p no_heads)))
+  all_above n p e l =
       let all = from (above side rows) p 0 (head_of side (get_or heads p no_heads)) (omega arith) ((sorted_of side rows heads count free so).first p l) in
       record {
         members = λ m. (λ h. let r = (all.members m).0 h in (r.0, r.1), λ h. (all.members m).1 (h.0, h.1, omega arith));
         rising = all.rising;
         inside = λ m h. let i = inside rows heads count free so m ((all.members m).0 h).0 in (omega (arith, i.0), omega (arith, i.1));
       }
+
+  -- the other ends are places
+  low_of : (s : ℕ) (l : Link R) → link_at rows s ≡ Some l → key_of side l < length heads
+  low_of s l e = key_inside side l (length heads) (inside rows heads count free so l (of_slot (linked rows) l s e))
+
+  -- a link comes, and then those from the next slot on, up to the number of places or more
+  pub step : (n s : ℕ) (l : Link R) → length heads ≤ n → link_at rows s ≡ Some l → onward side rows n s ≡ l ∷ onward side rows n (next side (at rows s))
+  step n s l le e = step_to side rows (climbing_of side rows heads count free so) (length heads) low_of n s l le e
+
+  -- to the number of places, or to the number above all other ends, the same links come
+  pub same_to : (s : ℕ) → onward side rows (above side rows) s ≡ onward side rows (length heads) s
+  same_to s =
+      let c = climbing_of side rows heads count free so in
+      let n = above side rows in
+      let m = length heads in
+      enough side rows c n (λ k l e. (key_at side rows k l e).1) n (n + m) s (λ l q. omega arith) (λ l q. omega arith) ∙
+      sym (enough side rows c m low_of m (n + m) s (λ l q. omega arith) (λ l q. omega arith))
+
+  -- every link there, up to the number of places
+  pub all_links : (n p : ℕ) → n ≡ length heads → p < length heads → LinksOf side (links rows) n p (onward side rows n (head_of side (get_or heads p no_heads)))
+  all_links n p e l =
+      let s = head_of side (get_or heads p no_heads) in
+      subst (λ k. LinksOf side (links rows) n p (onward side rows k s)) (sym e)
+      (subst (LinksOf side (links rows) n p) (same_to s) (all_above n p e l))

@@ -8,7 +8,7 @@ use Rattle.links.specs.declared.row.LinkRow.TheVariants.{Used}
 use Rattle.links.specs.declared.table.links_at.LinksAt.{LinksAt}
 use Rattle.links.specs.Table.{link_at, links, head_of, no_heads, above, Climbing, Sound}
 use Rattle.links.specs.LinksAt.{LinksOf, onward, rest}
-use Rattle.links.proofs.Onward.{stop, step, all_links}
+use Rattle.links.proofs.Onward.{stop, step_on, all_above}
 use Rattle.links.proofs.Holding.{got}
 use Rattle.links.proofs.Props.{climbing_prop}
 
@@ -25,7 +25,7 @@ rest_some it l h s climbing e f =
     let rows = it.rows.now in
     let r = got rows it.at.0 l h e in
     let n = above it.side rows in
-    subst (λ k. onward it.side rows n it.at.0 ≡ l ∷ onward it.side rows n k) (sym (f ∙ r.goes it.side)) (step it.side rows it.climbing it.at.0 l r.link)
+    subst (λ k. onward it.side rows n it.at.0 ≡ l ∷ onward it.side rows n k) (sym (f ∙ r.goes it.side)) (step_on it.side rows it.climbing it.at.0 l r.link)
 
 -- every link there, from the head of the thread on
 pub rest_all : {R : Type 0} (it : LinksAt R) (heads : List Heads) (count free : ℕ) → Sound it.rows.now heads count free → (p : ℕ) → p < length heads → it.at.0 ≡ head_of it.side (get_or heads p no_heads) →
@@ -33,7 +33,7 @@ pub rest_all : {R : Type 0} (it : LinksAt R) (heads : List Heads) (count free : 
 unfolding rest
 rest_all it heads count free so p i e =
     let rows = it.rows.now in
-    subst (λ k. LinksOf it.side (links rows) (length heads) p (onward it.side rows (above it.side rows) k)) (sym e) (all_links it.side rows heads count free so (length heads) p refl i)
+    subst (λ k. LinksOf it.side (links rows) (length heads) p (onward it.side rows (above it.side rows) k)) (sym e) (all_above it.side rows heads count free so (length heads) p refl i)
 
 -- that the links climb is one fact, so that a walk at the same slot of the same rows is the same
 pub same_walk : {R : Type 0} (it : LinksAt R) (climbing : Climbing it.side it.rows.now) → record { rows = it.rows; side = it.side; at = it.at; climbing = climbing } ≡ it
