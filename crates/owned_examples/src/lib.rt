@@ -161,8 +161,10 @@ mod tests {
         assert_eq!(rt; linked(&mut columns, b, c, &mut list), Some(Ok((1, 0))));
         assert_eq!(rt; linked(&mut columns, c, a, &mut list), None);
         assert_eq!(rt; held(&mut columns, a, 50, &mut list), Some((3, 3)));
-        assert_eq!(rt; unlinked(&mut columns, a, b, &mut list), Some((2, 2)));
+        assert_eq!(rt; brought(&mut columns, c), Some(false));
         assert_eq!(rt; discarded(&mut columns, c), true);
+        assert_eq!(rt; brought(&mut columns, b), Some(false));
+        assert_eq!(rt; unlinked(&mut columns, a, b, &mut list), Some((1, 1)));
         assert_eq!(rt; tables.own.as_slice(), [50, 0, 0].as_slice());
         assert_eq!(rt; tables.labels.as_slice(), [50, 0, 0].as_slice());
         assert_eq!(rt; tables.present.as_slice(), [false, true, false].as_slice());

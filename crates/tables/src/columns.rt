@@ -8,7 +8,7 @@ use super::tables::Tables;
 use links::Tally;
 
 // The entries of the places, which come first in the lent tables, and the links between these places. `marks` has a byte for each place, zero outside a search.
-// Where there are no places, the tables may hold anything. Each call says that the loan is the same (`SameLoan`): so who lends the tables knows what they hold afterwards.
+// Where there are no places, the tables may hold anything. Each call that changes them says that the loan is the same (`SameLoan`): so who lends the tables knows what they hold afterwards.
 #[derive(Drop)]
 pub struct Columns<'a, R: Copy, S: Copy> {
     pub tables: &'a mut Tables<R, S>,
