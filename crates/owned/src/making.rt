@@ -29,7 +29,7 @@ impl<R: Copy, S: Copy> OwnedTables<R, S> {
         ensures room { (n m : ℕ) → Room result.tables n m ↔ ((((n ≤ vec_len present) × (n ≤ vec_len marks)) × ((n ≤ vec_len own) × (n ≤ vec_len labels))) × ((n ≤ vec_len ranks) × (n ≤ vec_len order) × (n ≤ vec_len heads) × (m ≤ vec_len links))) }
         ensures places { result.places ≡ 0 }
         ensures links { linked (columns result) ≡ [] }
-        ensures kept { (result.tables.present ≡ present) × (result.tables.own ≡ own) × (result.tables.labels ≡ labels) × (result.tables.marks ≡ marks) }
+        ensures kept { (result.tables.present ≡ present) × (result.tables.own ≡ own) × (result.tables.labels ≡ labels) × (result.tables.ranks ≡ ranks) × (result.tables.order ≡ order) × (result.tables.marks ≡ marks) }
     {
         let mut heads = heads;
         let mut links = links;
